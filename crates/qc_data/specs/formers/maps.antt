@@ -1,0 +1,2 @@
+pub mod NameMap
+pub mod TextMap

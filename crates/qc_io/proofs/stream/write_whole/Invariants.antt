@@ -1,0 +1,13 @@
+-- What is no longer in the rest went to the stream.
+use Rattle.std.proofs.Common.{◌≡◌, ℕ, List, ◌++◌, length}
+use Rattle.std.specs.Io.KnownBytes.{Appends}
+use Rattle.qc_io.proofs.stream.write_whole.Given as goal
+
+abbrev pub invariant-loop-rest : goal.invariant-loop-rest
+invariant-loop-rest g l =
+    (front : List ℕ)
+    × (l.piece ≡ front ++ l.rest)
+    × Appends (g.W.Write.contents l.initial.stream) (g.W.Write.contents l.stream) front
+
+abbrev pub decreases-loop-rest : goal.decreases-loop-rest
+decreases-loop-rest g l = length l.rest

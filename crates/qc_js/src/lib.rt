@@ -1,0 +1,10 @@
+//! The JavaScript of a compiled query: its trees, their one text, and their meaning.
+#![tactic(auto)]
+
+mod emit;
+#[cfg(test)]
+mod tests;
+mod tree;
+
+pub use emit::emit_text;
+pub use tree::{Expr, Function, Js};

@@ -1,0 +1,5 @@
+pub mod Answered
+pub mod Meanings
+mod Readings
+mod Scanning
+mod Values

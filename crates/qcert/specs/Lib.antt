@@ -1,0 +1,6 @@
+pub mod Answer
+pub mod Delivery
+pub mod Job
+pub mod Lowering
+pub mod Ran
+pub mod Right

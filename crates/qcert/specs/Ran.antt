@@ -1,0 +1,42 @@
+-- What a call of the program did.
+use Rattle.std.specs.Prelude.{◌≡◌, ◌≢◌, ℕ, List, Option, Some, Result}
+use Rattle.std.specs.Io.KnownBytes.{append_known}
+use Rattle.qc_io.specs.Device.{Texts}
+use Rattle.qc_oql.specs.declared.tree.Oql.{Oql}
+use Rattle.qc_oql.specs.FirstForm.{IsFirstForm}
+use Rattle.qcert.specs.declared.refusal.Refusal.{Refusal}
+use Rattle.qcert.specs.declared.refusal.Refusal.TheVariants as refusal
+use Rattle.qcert.specs.Job.{Job, job_of}
+use Rattle.qcert.specs.Answer.{IsAnswer, IsCause, IsCompiled}
+use Rattle.qcert.specs.Delivery.{IsDelivered}
+
+-- an answer that the words may have was delivered
+pub record Ran (words : List (List ℕ)) (texts : Option Texts) (shelf_failed : Type 0)
+    (out_old out_new : Option (List ℕ)) (out_failed : Type 0) (err_old err_new : Option (List ℕ)) (err_failed : Type 0) (status : ℕ) : Type 0 where
+  pub answer : Result (List ℕ) Refusal
+  pub is_answer : IsAnswer words texts shelf_failed answer
+  pub delivered : IsDelivered answer out_old out_new out_failed err_old err_new err_failed status
+
+-- the words ask to compile, and what was added to the output is right for the query
+pub record Compiled (words : List (List ℕ)) (texts : Option Texts) (out_old out_new : Option (List ℕ)) : Type 0 where
+  pub job : Job
+  pub is_job : job_of words ≡ Some job
+  pub text : List ℕ
+  pub right : IsCompiled texts job text
+  pub added : out_new ≡ append_known out_old text
+
+-- the words ask to compile a file that has a query of the first form
+pub record IsServed (words : List (List ℕ)) (text_of : Texts) : Type 0 where
+  pub job : Job
+  pub is_job : job_of words ≡ Some job
+  pub bytes : List ℕ
+  pub read : text_of job.query ≡ Some bytes
+  pub query : Oql
+  pub spelled : IsFirstForm bytes query
+
+-- the texts are told, there is this cause to refuse, and it is not want of memory
+pub record IsDue (words : List (List ℕ)) (texts : Option Texts) (due : Refusal) : Type 0 where
+  pub text_of : Texts
+  pub told : texts ≡ Some text_of
+  pub cause : IsCause words texts ⊥ due
+  pub caused : due ≢ refusal.Memory

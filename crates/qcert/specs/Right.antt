@@ -1,0 +1,35 @@
+-- When a text is right for a query.
+use Rattle.std.specs.Prelude.{◌≡◌, ◌⊎◌, ℕ, List, []}
+use Rattle.qc_data.specs.declared.data.Datum.{Datum}
+use Rattle.qc_data.specs.declared.data.Datum.TheVariants.{Rec}
+use Rattle.qc_data.specs.Encoding.{enc}
+use Rattle.qc_data.specs.Outcome.{any_size, bits64, Value, Halts, Range}
+use Rattle.qc_oql.specs.declared.tree.Oql.{Oql}
+use Rattle.qc_oql.specs.Meaning.{oql}
+use Rattle.qc_js.specs.declared.tree.Js.{Js}
+use Rattle.qc_js.specs.Layout.{layout}
+use Rattle.qc_js.specs.Meaning.{js}
+use Rattle.qc_js.specs.Spelling.{Spells}
+
+-- the worlds of the empty schema, which has no globals: the record without fields
+abbrev pub IsWorld : Datum → Type 0
+IsWorld world = world ≡ Rec []
+
+-- the program throws the range error where the query itself leaves 64 bits
+pub record ThrowsAs (query : Oql) (program : Js) (world : Datum) : Type 0 where
+  pub leaves : oql bits64 query world ≡ Halts Range
+  pub throws : js bits64 program (enc world) ≡ Halts Range
+
+-- on the JSON of this world the program answers the JSON of the query's answer, or throws the range error, and that only where the query itself leaves 64 bits
+pub record AnswersAs (query : Oql) (program : Js) (world : Datum) : Type 0 where
+  pub answer : Datum
+  pub is_answer : oql any_size query world ≡ Value answer
+  pub same : (js bits64 program (enc world) ≡ Value (enc answer)) ⊎ ThrowsAs query program world
+
+-- the text is the one layout of a program, which it spells and no other, and the program answers as the query does in every world
+pub record IsRight (query : Oql) (text : List ℕ) : Type 0 where
+  pub program : Js
+  pub is_layout : text ≡ layout program
+  pub spells : Spells text program
+  pub only : (other : Js) → Spells text other → other ≡ program
+  pub each : (world : Datum) → IsWorld world → AnswersAs query program world
