@@ -1,10 +1,11 @@
--- Encoding keeps integers, collections and what operators make.
-use Rattle.std.proofs.Common.{◌≡◌, ℤ, List, [], ◌∷◌, ◌++◌, map, rules, refl, sym, ap, ◌∙◌}
+-- What the encoding is at each kind, and that it keeps integers, collections and what operators make.
+use Rattle.std.proofs.Common.{◌≡◌, ℕ, ℤ, Bool, List, [], ◌∷◌, ◌++◌, map, rules, refl, sym, ap, ◌∙◌}
 use Rattle.std.specs.List.{AllByRecursion}
+use Rattle.std.specs.Prelude.{codes}
 use Rattle.qc_data.specs.declared.data.Datum.{Datum}
 use Rattle.qc_data.specs.declared.data.Datum.TheOpen.{Datum-F}
-use Rattle.qc_data.specs.declared.data.Datum.TheViews.{out-Datum}
-use Rattle.qc_data.specs.declared.data.Datum.TheFolds.{map-Datum, fold_out-Datum}
+use Rattle.qc_data.specs.declared.data.Datum.TheViews.{out-Datum, roll-Datum}
+use Rattle.qc_data.specs.declared.data.Datum.TheFolds.{map-Datum, fold-roll-Datum, fold_out-Datum}
 use Rattle.qc_data.specs.declared.data.Datum.TheVariants as datum
 use Rattle.qc_data.specs.declared.data.Json.{Json}
 use Rattle.qc_data.specs.declared.data.Json.TheViews.{out-Json, the_lemmas}
@@ -12,16 +13,40 @@ use Rattle.qc_data.specs.declared.data.Json.TheVariants as json
 use Rattle.qc_data.specs.Outcome.{Mode, Outcome, Value, Halts, and_then, alone, each, bound}
 use Rattle.qc_data.specs.Kinds.{as_int, as_coll, json_int, json_array, int_at, coll_at, number_at, array_at, made, json_made}
 use Rattle.qc_data.specs.Encoding.{enc, enc_step, encoded}
-use Rattle.qc_data.proofs.KindLaws.{out-Coll}
+use Rattle.qc_data.specs.Rising.{on_value}
+
+pub enc-roll : (x : Datum-F Datum) → enc (roll-Datum x) ≡ enc_step (map-Datum Datum Json enc x)
+enc-roll x = fold-roll-Datum Json enc_step x
 
 enc_layers : (d : Datum) → enc d ≡ enc_step (map-Datum Datum Json enc (out-Datum d))
 enc_layers d = fold_out-Datum Json enc_step d
 
-pub enc-Int : (n : ℤ) → enc (datum.Int n) ≡ json.Int n
-enc-Int n = enc_layers (datum.Int n) ∙ rw (datum.outs-Int n) refl
+pub enc-Unit : enc datum.Unit ≡ json.Null
+enc-Unit = ap enc (sym datum.rolls-Unit) ∙ enc-roll Datum-F.Unit
 
-pub enc-Coll : (xs : List Datum) → enc (datum.Coll xs) ≡ json.Array (map enc xs)
-enc-Coll xs = enc_layers (datum.Coll xs) ∙ rw (out-Coll xs) refl
+pub enc-Bool : (b : Bool) → enc (datum.Bool b) ≡ json.Bool b
+enc-Bool b = ap enc (sym (datum.rolls-Bool b)) ∙ enc-roll (Datum-F.Bool b)
+
+pub enc-Int : (n : ℤ) → enc (datum.Int n) ≡ json.Int n
+enc-Int n = ap enc (sym (datum.rolls-Int n)) ∙ enc-roll (Datum-F.Int n)
+
+pub enc-Text : (text : List ℕ) → enc (datum.Text text) ≡ json.Text text
+enc-Text text = ap enc (sym (datum.rolls-Text text)) ∙ enc-roll (Datum-F.Text text)
+
+pub enc-Coll : (items : List Datum) → enc (datum.Coll items) ≡ json.Array (map enc items)
+enc-Coll items = ap enc (sym (datum.rolls-Coll items)) ∙ enc-roll (Datum-F.Coll items)
+
+pub enc-Rec : (fields : List (List ℕ × Datum)) → enc (datum.Rec fields) ≡ json.Object (map (on_value enc) fields)
+enc-Rec fields = ap enc (sym (datum.rolls-Rec fields)) ∙ enc-roll (Datum-F.Rec fields)
+
+pub enc-Left : (d : Datum) → enc (datum.Left d) ≡ json.Object ((codes "$left", enc d) ∷ [])
+enc-Left d = ap enc (sym (datum.rolls-Left d)) ∙ enc-roll (Datum-F.Left d)
+
+pub enc-Right : (d : Datum) → enc (datum.Right d) ≡ json.Object ((codes "$right", enc d) ∷ [])
+enc-Right d = ap enc (sym (datum.rolls-Right d)) ∙ enc-roll (Datum-F.Right d)
+
+pub enc-Brand : (name : List ℕ) (d : Datum) → enc (datum.Brand name d) ≡ json.Object ((codes "$class", json.Text name) ∷ (codes "$data", enc d) ∷ [])
+enc-Brand name d = ap enc (sym (datum.rolls-Brand name d)) ∙ enc-roll (Datum-F.Brand name d)
 
 number_at-enc : (x : Datum-F Datum) → number_at (out-Json (enc_step (map-Datum Datum Json enc x))) ≡ int_at x
 number_at-enc Datum-F.Unit = search (rules, the_lemmas)

@@ -1,5 +1,5 @@
 -- What the kinds of values are at each kind, and that encoding keeps them.
-use Rattle.std.proofs.Common.{◌≡◌, ℤ, List, rules, refl}
+use Rattle.std.proofs.Common.{◌≡◌, ℕ, ℤ, List, rules, refl}
 use Rattle.qc_data.specs.declared.data.Datum.{Datum}
 use Rattle.qc_data.specs.declared.data.Datum.TheOpen.{Datum-F}
 use Rattle.qc_data.specs.declared.data.Datum.TheViews.{out-Datum, the_lemmas}
@@ -19,6 +19,9 @@ as_int-Int n = rw (datum.outs-Int n) refl
 pub out-Coll : (xs : List Datum) → out-Datum (datum.Coll xs) ≡ Datum-F.Coll xs
 out-Coll xs = search (rules, the_lemmas)
 
+pub out-Rec : (fields : List (List ℕ × Datum)) → out-Datum (datum.Rec fields) ≡ Datum-F.Rec fields
+out-Rec fields = search (rules, the_lemmas)
+
 pub as_coll-Coll : (xs : List Datum) → as_coll (datum.Coll xs) ≡ Value xs
 as_coll-Coll xs = rw (out-Coll xs) refl
 
@@ -27,6 +30,9 @@ json_int-Int n = rw (json.outs-Int n) refl
 
 pub out-Array : (js : List Json) → out-Json (json.Array js) ≡ Json-F.Array js
 out-Array js = search (rules, json_views.the_lemmas)
+
+pub out-Object : (members : List (List ℕ × Json)) → out-Json (json.Object members) ≡ Json-F.Object members
+out-Object members = search (rules, json_views.the_lemmas)
 
 pub json_array-Array : (js : List Json) → json_array (json.Array js) ≡ Value js
 json_array-Array js = rw (out-Array js) refl

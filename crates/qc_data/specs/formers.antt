@@ -1,3 +1,4 @@
 pub mod boxed
 pub mod list
-pub mod maps
+pub mod name_map
+pub mod text_map

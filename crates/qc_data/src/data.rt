@@ -1,9 +1,10 @@
 // Data, and the JSON trees that encode them.
 use crate::boxed::Boxed;
 use crate::list::List;
-use crate::maps::{NameMap, TextMap};
 use crate::name::Name;
+use crate::name_map::NameMap;
 use crate::text::Chars;
+use crate::text_map::TextMap;
 
 /// The members of a collection.
 pub type Items = List<Datum>;
@@ -18,28 +19,41 @@ pub type Jsons = List<Json>;
 pub type Members = TextMap<Json>;
 
 /// A value of a query. Clauses see it with integers of any size; those that code holds have 64 bits.
-#[derive(Drop)]
+#[derive(PartialEq, Eq, PartialOrd, Ord, Drop)]
 pub enum Datum {
+    /// The value that says nothing.
     Unit,
+    /// A truth value.
     Bool(bool),
+    /// An integer.
     Int(i64),
+    /// A text.
     Text(Chars),
-    /// A list, which queries compare as a bag.
+    /// A collection: a list, which `same` compares as a bag.
     Coll(Items),
+    /// A record: values by distinct names.
     Rec(Fields),
+    /// A value of the left side of a sum.
     Left(Boxed<Datum>),
+    /// A value of the right side of a sum.
     Right(Boxed<Datum>),
-    /// A value of a class, by its name.
+    /// A value of a class, by the class's name.
     Brand(Name, Boxed<Datum>),
 }
 
 /// A JSON tree whose numbers are integers.
 #[derive(Drop)]
 pub enum Json {
+    /// Null.
     Null,
+    /// A boolean.
     Bool(bool),
+    /// An integer.
     Int(i64),
+    /// A text.
     Text(Chars),
+    /// An array.
     Array(Jsons),
+    /// An object: values by distinct texts.
     Object(Members),
 }

@@ -1,5 +1,6 @@
 // Lists without a pointer in what clauses see.
 ghost use Rattle.std.specs.Prelude.{◌≡◌, [], ◌∷◌, ◌++◌, length, slice_get, IfErr, OnOk, OnErr};
+ghost use Rattle.std.specs.List.Sorted.{IsSorted, IsStable};
 ghost use Rattle.std.specs.Option.{option_copied};
 
 use crate::halt::Memory;
@@ -74,6 +75,20 @@ impl<T: Drop> List<T> {
         ensures err { OnErr result (self.new ≡ self.old) }
     {
         match self.push(item) {
+            Ok(()) => Ok(()),
+            Err(_) => Err(Memory),
+        }
+    }
+}
+
+impl<T: Ord> List<T> {
+    /// Sorts the items, and keeps the order of those that tie. `Err` leaves them as before.
+    pub fn sort(&mut self) -> Result<(), Memory>
+        ensures sorted { OnOk result (IsSorted T.cmp self.new) }
+        ensures stable { IsStable T.cmp self.old self.new }
+        ensures err { OnErr result (self.new ≡ self.old) }
+    {
+        match self.items.sort() {
             Ok(()) => Ok(()),
             Err(_) => Err(Memory),
         }

@@ -2,6 +2,7 @@
 ghost use Rattle.std.specs.Prelude.{◌≡◌, ◌↔◌, IfOk, IsTrue, false};
 ghost use Rattle.qc_data.specs.Name.{is_marker, is_name, IsUser};
 
+use crate::halt::Memory;
 use crate::text::Chars;
 use std::alloc::Global;
 use std::marker::Model;
@@ -57,6 +58,14 @@ impl Name {
         ensures name { IsTrue (is_name self.now) }
     {
         self.text.as_str()
+    }
+
+    /// The same name.
+    pub fn copy(&self, alloc: Global) -> Result<Name, Memory>
+        ensures { IfOk result (λ name. name ≡ self.now) }
+    {
+        let text = self.text.copy(alloc)?;
+        Ok(Name { text })
     }
 
     /// Whether a user may give this name: those that begin with `$` are the compiler's own.

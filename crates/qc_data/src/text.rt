@@ -34,4 +34,11 @@ impl Chars {
     {
         self.text.as_str()
     }
+
+    /// The same text.
+    pub fn copy(&self, alloc: Global) -> Result<Chars, Memory>
+        ensures { IfOk result (λ chars. chars ≡ self.now) }
+    {
+        Chars::of(alloc, self.as_str())
+    }
 }
