@@ -1,0 +1,14 @@
+pub mod Choices
+pub mod Deciding
+pub mod Exactness
+pub mod Firsts
+pub mod Heads
+pub mod Parsed
+pub mod Repeats
+pub mod Sequences
+pub mod Sets
+pub mod Sized
+pub mod Sizes
+pub mod Turns
+pub mod Two
+pub mod Values

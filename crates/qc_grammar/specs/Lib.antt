@@ -1,0 +1,5 @@
+pub mod Languages
+pub mod Parsers
+pub mod Parsing
+pub mod Reads
+pub mod Tokens

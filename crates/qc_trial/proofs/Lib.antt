@@ -1,0 +1,5 @@
+mod Begins
+mod Exactness
+mod Sizes
+mod Values
+mod Whole

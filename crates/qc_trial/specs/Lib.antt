@@ -1,0 +1,5 @@
+pub mod Grammar
+pub mod Kinds
+pub mod Lexemes
+pub mod Reading
+pub mod Sizes

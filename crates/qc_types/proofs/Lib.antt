@@ -1,0 +1,13 @@
+mod RisenRows
+pub mod RowLaws
+pub mod Inductions
+pub mod TypeLaws
+pub mod JoinLaws
+pub mod Above
+mod Fitting
+mod Halves
+pub mod JoinKinds
+mod NameLaws
+mod ListLaws
+pub mod ClassLaws
+pub mod WorldLaws

@@ -1,0 +1,83 @@
+// Types, and the classes that they name.
+ghost use Rattle.std.specs.Prelude.{◌≡◌, IfOk};
+
+use qc_data::{Boxed, Memory, Name, NameMap};
+use std::alloc::Global;
+
+/// Whether a record has further fields than those that its type names.
+#[derive(Clone, Copy, Debug, PartialEq, Eq)]
+pub enum Width {
+    /// None.
+    Exact,
+    /// Any.
+    Wide,
+}
+
+/// The fields of a record's type, whose names rise.
+pub type Row = NameMap<Ty>;
+
+/// A type of data.
+#[derive(Drop)]
+pub enum Ty {
+    /// The type of no datum.
+    Bottom,
+    Unit,
+    Bool,
+    Int,
+    Text,
+    Coll(Boxed<Ty>),
+    Rec(Width, Row),
+    Either(Boxed<Ty>, Boxed<Ty>),
+    /// The values of a class and of the classes below it.
+    Brand(Name),
+}
+
+/// A class: its name, its parent if it has one, and the type of its values' content.
+#[derive(Drop)]
+pub struct ClassDef {
+    pub name: Name,
+    pub parent: Option<Name>,
+    pub shape: Ty,
+}
+
+/// The same type.
+#[cycle(copy)]
+pub fn copy_ty(alloc: Global, t: &Ty) -> Result<Ty, Memory>
+    ensures { IfOk result (λ made. made ≡ t.now) }
+{
+    match t {
+        Ty::Bottom => Ok(Ty::Bottom),
+        Ty::Unit => Ok(Ty::Unit),
+        Ty::Bool => Ok(Ty::Bool),
+        Ty::Int => Ok(Ty::Int),
+        Ty::Text => Ok(Ty::Text),
+        Ty::Coll(item) => Ok(Ty::Coll(copy_boxed(alloc, item)?)),
+        Ty::Rec(width, row) => Ok(Ty::Rec(*width, copy_row(alloc, row)?)),
+        Ty::Either(left, right) => {
+            let left = copy_boxed(alloc, left)?;
+            Ok(Ty::Either(left, copy_boxed(alloc, right)?))
+        }
+        Ty::Brand(name) => Ok(Ty::Brand(name.copy(alloc)?)),
+    }
+}
+
+#[cycle(copy)]
+fn copy_boxed(alloc: Global, inner: &Boxed<Ty>) -> Result<Boxed<Ty>, Memory>
+    ensures { IfOk result (λ made. made ≡ inner.now) }
+{
+    let inner = copy_ty(alloc, inner.get())?;
+    Boxed::of(alloc, inner)
+}
+
+/// The same fields.
+#[cycle(copy)]
+pub fn copy_row(alloc: Global, row: &Row) -> Result<Row, Memory>
+    ensures { IfOk result (λ made. made ≡ row.now) }
+{
+    let mut copies = Row::new(alloc);
+    for pair in row.as_slice() {
+        let name = pair.0.copy(alloc)?;
+        copies.add(name, copy_ty(alloc, &pair.1)?)?;
+    }
+    Ok(copies)
+}
