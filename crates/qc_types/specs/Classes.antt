@@ -21,6 +21,7 @@ listed c a = is_some (class_of c a)
 abbrev pub shape : Defs → List ℕ → Option Ty
 shape c a = option_map (λ d. d.shape) (class_of c a)
 
+-- what f gives of the parent, if there is one
 abbrev pub parents : (List ℕ → List (List ℕ)) → Option (List ℕ) → List (List ℕ)
 parents f None = []
 parents f (Some p) = f p
@@ -30,6 +31,7 @@ abbrev pub chain : Defs → List ℕ → List (List ℕ)
 chain [] a = []
 chain (d ∷ ds) a = cond (bytes_eq d.name a) (a ∷ parents (λ p. chain ds p) d.parent) (chain ds a)
 
+-- the name is one of the names
 abbrev pub is_in : List ℕ → List (List ℕ) → Bool
 is_in b [] = false
 is_in b (a ∷ as') = bytes_eq a b || is_in b as'

@@ -18,6 +18,7 @@ joined j None y = None
 joined j (Some a) None = None
 joined j (Some a) (Some b) = j a b
 
+-- the field first, if there is a type for it
 abbrev pub put_some : List ℕ → Option Ty → List (List ℕ × Ty) → List (List ℕ × Ty)
 put_some n None r = r
 put_some n (Some t) r = (n, t) ∷ r
@@ -27,6 +28,7 @@ abbrev pub shared : {A B : Type 0} → (A → B → Option Ty) → List (List �
 shared j [] ps qs = []
 shared j (n ∷ ns) ps qs = put_some n (joined j (lookup n ps) (lookup n qs)) (shared j ns ps qs)
 
+-- Exact where both are and the names are the same
 abbrev pub width_of : Width → Width → Bool → Width
 width_of Exact Exact true = Exact
 width_of _ _ _ = Wide
@@ -35,6 +37,7 @@ width_of _ _ _ = Wide
 abbrev pub row_join : List (List ℕ) → List (List ℕ) → Width → Width → List (List ℕ × Ty) → Ty
 row_join ns ms w v r = ty.Rec (width_of w v (same_names ns ms && same_names (names r) ns)) r
 
+-- the type of the two sides, if both are there
 abbrev pub either : Option Ty → Option Ty → Option Ty
 either None y = None
 either (Some a) None = None
@@ -54,6 +57,7 @@ join_layer c u j (Ty-F.Either a b) (Ty-F.Either d e) = either (j a d) (j b e)
 join_layer c u j (Ty-F.Brand n) (Ty-F.Brand m) = option_map (λ k. ty.Brand k) (common c n m)
 join_layer c u j _ _ = None
 
+-- one layer of a type, given its parts and their joins
 abbrev pub join_step : Defs → Ty-F (Ty × (Ty → Option Ty)) → Ty → Option Ty
 join_step c x t = join_layer c (λ e. e.0) (λ e s. e.1 s) x (out-Ty t)
 

@@ -20,6 +20,7 @@ abbrev pub user : List ℕ → Bool
 user [] = true
 user (b ∷ bs) = not (b == 36)
 
+-- one layer of a type, given the same of its parts
 abbrev pub lists_step : Defs → Ty-F Bool → Bool
 lists_step c (Ty-F.Coll b) = b
 lists_step c (Ty-F.Rec w bs) = all_values bs
@@ -45,6 +46,7 @@ extends c ds (Some p) t = is_under c t (shape ds p)
 abbrev pub good_class : Defs → Defs → ClassDef → Bool
 good_class c ds d = user d.name && (not (listed ds d.name) && (lists c d.shape && extends c ds d.parent d.shape))
 
+-- each of the classes ds, the last listed first, may come after those before it
 abbrev pub good_part : Defs → Defs → Bool
 good_part c [] = true
 good_part c (d ∷ ds) = good_class c ds d && good_part c ds
@@ -69,6 +71,7 @@ abbrev pub user_fields : List (List ℕ × Bool) → Bool
 user_fields [] = true
 user_fields (p ∷ ps) = user p.0 && (p.1 && user_fields ps)
 
+-- one layer of a datum, given the same of its parts
 abbrev pub user_step : Datum-F Bool → Bool
 user_step (Datum-F.Coll bs) = all_true bs
 user_step (Datum-F.Rec ps) = user_fields ps

@@ -30,6 +30,7 @@ fits_layer c r (Datum-F.Right d) (Ty-F.Either t u) = r d u
 fits_layer c r (Datum-F.Brand n d) (Ty-F.Brand m) = below c n m && content r d (shape c n)
 fits_layer c r _ _ = false
 
+-- one layer of a datum, given what its parts fit
 abbrev pub fits_step : Defs → Datum-F (Ty → Bool) → Ty → Bool
 fits_step c x t = fits_layer c (λ f u. f u) x (out-Ty t)
 
@@ -51,6 +52,7 @@ sub_layer c r (Ty-F.Either t u) (Ty-F.Either v w) = r t v && r u w
 sub_layer c r (Ty-F.Brand n) (Ty-F.Brand m) = bytes_eq n m || below c n m
 sub_layer c r _ _ = false
 
+-- one layer of a type, given what its parts are below
 abbrev pub sub_step : Defs → Ty-F (Ty → Bool) → Ty → Bool
 sub_step c x u = sub_layer c (λ f t. f t) x (out-Ty u)
 

@@ -7,9 +7,9 @@ use std::alloc::Global;
 /// Whether a record has further fields than those that its type names.
 #[derive(Clone, Copy, Debug, PartialEq, Eq)]
 pub enum Width {
-    /// None.
+    /// It has none.
     Exact,
-    /// Any.
+    /// It may have any.
     Wide,
 }
 
@@ -21,12 +21,19 @@ pub type Row = NameMap<Ty>;
 pub enum Ty {
     /// The type of no datum.
     Bottom,
+    /// The type of the value that says nothing.
     Unit,
+    /// Truth values.
     Bool,
+    /// Integers.
     Int,
+    /// Texts.
     Text,
+    /// Collections of members of a type.
     Coll(Boxed<Ty>),
+    /// Records with the fields of the row, each of its type, and of no others where the width is `Exact`.
     Rec(Width, Row),
+    /// Left values of the first type and right values of the second.
     Either(Boxed<Ty>, Boxed<Ty>),
     /// The values of a class and of the classes below it.
     Brand(Name),
@@ -35,12 +42,15 @@ pub enum Ty {
 /// A class: its name, its parent if it has one, and the type of its values' content.
 #[derive(Drop)]
 pub struct ClassDef {
+    /// The name, which only this class of a list has.
     pub name: Name,
+    /// The parent, which is listed before.
     pub parent: Option<Name>,
+    /// What the content of the class's own values fits.
     pub shape: Ty,
 }
 
-/// The same type.
+/// A copy: the same type.
 #[cycle(copy)]
 pub fn copy_ty(alloc: Global, t: &Ty) -> Result<Ty, Memory>
     ensures { IfOk result (λ made. made ≡ t.now) }
@@ -69,7 +79,7 @@ fn copy_boxed(alloc: Global, inner: &Boxed<Ty>) -> Result<Boxed<Ty>, Memory>
     Boxed::of(alloc, inner)
 }
 
-/// The same fields.
+/// A copy: the same fields.
 #[cycle(copy)]
 pub fn copy_row(alloc: Global, row: &Row) -> Result<Row, Memory>
     ensures { IfOk result (λ made. made ≡ row.now) }
