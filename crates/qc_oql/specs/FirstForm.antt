@@ -10,9 +10,8 @@ pub record FewTokens (bytes : List ℕ) (tokens : List Token) : Type 0 where
   pub scanned : Scans bytes tokens
   pub few : length tokens ≤ 1000
 
--- at most 65,536 bytes, of at most 1,000 tokens, which all together spell the tree
+-- at most 1,000 tokens, which all together spell the tree
 pub record IsFirstForm (bytes : List ℕ) (tree : Oql) : Type 0 where
-  pub short : length bytes ≤ 65536
   pub tokens : List Token
   pub scan : FewTokens bytes tokens
   pub spelled : Query tokens tree

@@ -10,7 +10,7 @@ mod scanner;
 mod token;
 mod tree;
 
-pub use reader::{MOST_BYTES, read};
+pub use reader::read;
 pub use tree::Oql;
 
 #[cfg(test)]

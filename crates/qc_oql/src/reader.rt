@@ -8,20 +8,13 @@ use crate::tree::Oql;
 use qc_data::Memory;
 use std::alloc::Global;
 
-/// The most bytes of a query.
-pub const MOST_BYTES: u64 = 65536;
-
 /// Reads a query: the one tree that the bytes spell (`IsFirstForm`), and `None` exactly where they spell none,
-/// also where they are more than 65,536 bytes or 1,000 tokens. Any bytes may be given. `Err` says that memory was
-/// wanting.
+/// also where they are more than 1,000 tokens. Any bytes may be given. `Err` says that memory was wanting.
 pub fn read(alloc: Global, bytes: &[u8]) -> Result<Option<Oql>, Memory>
     ensures spelled { IfOk result (λ found. IfSome found (λ tree. IsFirstForm bytes.now tree)) }
     ensures only { IfOk result (λ found. IfSome found (λ tree. (other : _) → IsFirstForm bytes.now other → other ≡ tree)) }
     ensures none { IfOk result (λ found. IfNone found ((tree : _) → ¬ IsFirstForm bytes.now tree)) }
 {
-    if bytes.len() as u64 > MOST_BYTES {
-        return Ok(None);
-    }
     let Some(tokens) = scan(alloc, bytes)? else {
         return Ok(None);
     };

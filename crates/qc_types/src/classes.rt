@@ -1,5 +1,5 @@
 // Classes.
-ghost use Rattle.std.specs.Prelude.{◌≡◌, false, length, reverse, slice_get, IfOk, IsTrue};
+ghost use Rattle.std.specs.Prelude.{◌≡◌, [], false, length, reverse, slice_get, IfOk, IsTrue};
 ghost use Rattle.std.specs.Option.{option_copied};
 ghost use Rattle.qc_types.specs.Classes.{below, class_of};
 ghost use Rattle.qc_types.specs.Schemas.{good_classes};
@@ -36,6 +36,15 @@ impl Model for Classes {
 }
 
 impl Classes {
+    /// No classes. It takes no memory.
+    pub fn empty(alloc: Global) -> Classes
+        ensures { result ≡ [] }
+    {
+        Classes {
+            defs: Vec::new(alloc),
+        }
+    }
+
     /// The classes of a list in which each parent stands before its children. `BadClasses` exactly where the list is
     /// not good, unless memory is wanting before.
     pub fn build(alloc: Global, defs: Vec<ClassDef>) -> Result<Classes, ClassFault>

@@ -1,10 +1,11 @@
 // Schemas.
-ghost use Rattle.std.specs.Prelude.{◌≡◌, false, IfOk, IfErr, IsErr, IsTrue};
+ghost use Rattle.std.specs.Prelude.{◌≡◌, [], false, IfOk, IfErr, IsErr, IsTrue};
 ghost use Rattle.qc_types.specs.Schemas.{good_classes, good_globals};
 
 use crate::classes::Classes;
 use crate::goodness::is_good_globals;
 use crate::ty::Row;
+use std::alloc::Global;
 use std::marker::Model;
 
 /// Classes, and the types of the globals that queries may name. Clauses see both.
@@ -29,6 +30,16 @@ impl Model for Schema {
 }
 
 impl Schema {
+    /// The schema without classes and globals. It takes no memory.
+    pub fn empty(alloc: Global) -> Schema
+        ensures { result ≡ record { classes = []; globals = [] } }
+    {
+        Schema {
+            classes: Classes::empty(alloc),
+            globals: Row::new(alloc),
+        }
+    }
+
     /// The schema of both. `Err` exactly where a global's name is no user name or its type names a class that is not
     /// listed; it hands both back unchanged.
     pub fn of(classes: Classes, globals: Row) -> Result<Schema, (Classes, Row)>

@@ -184,6 +184,9 @@ fn a_schema_names_listed_classes(rt: HostRuntime) -> Result<(), Fail> {
     };
     assert_eq!(rt; schema.classes().len(), 3);
     assert_eq!(rt; copy_row(alloc, schema.globals())?.len(), 1);
+    let empty = Schema::empty(alloc);
+    assert_eq!(rt; empty.classes().len(), Classes::empty(alloc).len());
+    assert_eq!(rt; empty.globals().len(), 0);
     Ok(())
 }
 

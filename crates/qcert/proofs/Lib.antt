@@ -1,5 +1,5 @@
-pub mod Answered
 pub mod Forms
 pub mod Lowered
 pub mod RanLemmas
 pub mod Right
+pub mod StageLemmas

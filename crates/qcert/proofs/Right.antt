@@ -5,6 +5,7 @@ use Rattle.qc_data.specs.declared.data.Datum.{Datum}
 use Rattle.qc_data.specs.declared.data.Datum.TheVariants as datum
 use Rattle.qc_data.specs.Encoding.{enc, encoded}
 use Rattle.qc_data.specs.Outcome.{bits64}
+use Rattle.qc_types.specs.Schemas.{SchemaOf}
 use Rattle.qc_oql.specs.declared.tree.Oql.{Oql}
 use Rattle.qc_oql.specs.Meaning.{oql}
 use Rattle.qc_oql.proofs.Meanings.{by_forms}
@@ -56,9 +57,9 @@ answers_as query program world e a =
     }
 
 -- what the emitter says of a program's text
-pub right : (query : Oql) (program : Js) (text : List ℕ) → program.result ≡ lowered query → text ≡ layout program → (IsProgram program → Spells text program)
-    → ((other : Js) → Spells text other → other ≡ program) → IsRight query text
-right query program text e laid spells only = record {
+pub right : (schema : SchemaOf) (query : Oql) (program : Js) (text : List ℕ) → program.result ≡ lowered query → text ≡ layout program → (IsProgram program → Spells text program)
+    → ((other : Js) → Spells text other → other ≡ program) → IsRight schema query text
+right schema query program text e laid spells only = record {
   program = program;
   is_layout = laid;
   spells = spells (is_program query program e);

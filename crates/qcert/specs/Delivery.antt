@@ -5,11 +5,13 @@ use Rattle.qc_io.specs.Device.{AppendsFront}
 use Rattle.qcert.specs.declared.refusal.File.{File}
 use Rattle.qcert.specs.declared.refusal.File.TheVariants.{Schema, Query, Input, Script}
 use Rattle.qcert.specs.declared.refusal.Refusal.{Refusal}
-use Rattle.qcert.specs.declared.refusal.Refusal.TheVariants.{Usage, ReadFault, Unbuilt, WriteFault, Memory}
+use Rattle.qcert.specs.declared.refusal.Refusal.TheVariants.{Usage, ReadFault, TooLong, BadSchema, Unbuilt, WriteFault, Memory}
 
 abbrev pub status_of : Refusal → ℕ
 status_of Usage = 2
 status_of (ReadFault file) = 3
+status_of (TooLong file) = 1
+status_of BadSchema = 1
 status_of Unbuilt = 1
 status_of WriteFault = 4
 status_of Memory = 5
@@ -23,6 +25,8 @@ file_word Script = codes "script"
 abbrev pub refusal_text : Refusal → List ℕ
 refusal_text Usage = codes "Usage"
 refusal_text (ReadFault file) = codes "ReadFault " ++ file_word file
+refusal_text (TooLong file) = codes "TooLong " ++ file_word file
+refusal_text BadSchema = codes "BadSchema"
 refusal_text Unbuilt = codes "Unbuilt"
 refusal_text WriteFault = codes "WriteFault"
 refusal_text Memory = codes "Memory"

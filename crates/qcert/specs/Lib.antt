@@ -4,3 +4,4 @@ pub mod Job
 pub mod Lowering
 pub mod Ran
 pub mod Right
+pub mod Stages

@@ -1,13 +1,14 @@
 -- What a call of the program did.
-use Rattle.std.specs.Prelude.{◌≡◌, ◌≢◌, ℕ, List, Option, Some, Result}
+use Rattle.std.specs.Prelude.{◌≡◌, ◌≢◌, ℕ, List, Option, Some, Result, Err}
 use Rattle.std.specs.Io.KnownBytes.{append_known}
 use Rattle.qc_io.specs.Device.{Texts}
+use Rattle.qc_types.specs.Schemas.{SchemaOf}
 use Rattle.qc_oql.specs.declared.tree.Oql.{Oql}
-use Rattle.qc_oql.specs.FirstForm.{IsFirstForm}
 use Rattle.qcert.specs.declared.refusal.Refusal.{Refusal}
 use Rattle.qcert.specs.declared.refusal.Refusal.TheVariants as refusal
 use Rattle.qcert.specs.Job.{Job, job_of}
-use Rattle.qcert.specs.Answer.{IsAnswer, IsCause, IsCompiled}
+use Rattle.qcert.specs.Answer.{IsAnswer, IsCompiled}
+use Rattle.qcert.specs.Stages.{Accepts}
 use Rattle.qcert.specs.Delivery.{IsDelivered}
 
 -- an answer that the words may have was delivered
@@ -25,18 +26,17 @@ pub record Compiled (words : List (List ℕ)) (texts : Option Texts) (out_old ou
   pub right : IsCompiled texts job text
   pub added : out_new ≡ append_known out_old text
 
--- the words ask to compile a file that has a query of the first form
+-- the words ask to compile files that have a schema and a query of the first form, each within its limit
 pub record IsServed (words : List (List ℕ)) (text_of : Texts) : Type 0 where
   pub job : Job
   pub is_job : job_of words ≡ Some job
-  pub bytes : List ℕ
-  pub read : text_of job.query ≡ Some bytes
+  pub schema : SchemaOf
   pub query : Oql
-  pub spelled : IsFirstForm bytes query
+  pub accepted : Accepts (Some text_of) job schema query
 
 -- the texts are told, there is this cause to refuse, and it is not want of memory
 pub record IsDue (words : List (List ℕ)) (texts : Option Texts) (due : Refusal) : Type 0 where
   pub text_of : Texts
   pub told : texts ≡ Some text_of
-  pub cause : IsCause words texts ⊥ due
+  pub cause : IsAnswer words texts ⊥ (Err due)
   pub caused : due ≢ refusal.Memory

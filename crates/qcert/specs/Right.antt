@@ -1,9 +1,9 @@
 -- When a text is right for a query.
-use Rattle.std.specs.Prelude.{◌≡◌, ◌⊎◌, ℕ, List, []}
+use Rattle.std.specs.Prelude.{◌≡◌, ◌⊎◌, ℕ, List, IsTrue}
 use Rattle.qc_data.specs.declared.data.Datum.{Datum}
-use Rattle.qc_data.specs.declared.data.Datum.TheVariants.{Rec}
 use Rattle.qc_data.specs.Encoding.{enc}
 use Rattle.qc_data.specs.Outcome.{any_size, bits64, Value, Halts, Range}
+use Rattle.qc_types.specs.Schemas.{SchemaOf, is_world}
 use Rattle.qc_oql.specs.declared.tree.Oql.{Oql}
 use Rattle.qc_oql.specs.Meaning.{oql}
 use Rattle.qc_js.specs.declared.tree.Js.{Js}
@@ -11,9 +11,9 @@ use Rattle.qc_js.specs.Layout.{layout}
 use Rattle.qc_js.specs.Meaning.{js}
 use Rattle.qc_js.specs.Spelling.{Spells}
 
--- the worlds of the empty schema, which has no globals: the record without fields
-abbrev pub IsWorld : Datum → Type 0
-IsWorld world = world ≡ Rec []
+-- the datum is a world of the schema
+abbrev pub IsWorld : SchemaOf → Datum → Type 0
+IsWorld schema world = IsTrue (is_world schema.classes schema.globals world)
 
 -- the program throws the range error where the query itself leaves 64 bits
 pub record ThrowsAs (query : Oql) (program : Js) (world : Datum) : Type 0 where
@@ -26,10 +26,10 @@ pub record AnswersAs (query : Oql) (program : Js) (world : Datum) : Type 0 where
   pub is_answer : oql any_size query world ≡ Value answer
   pub same : (js bits64 program (enc world) ≡ Value (enc answer)) ⊎ ThrowsAs query program world
 
--- the text is the one layout of a program, which it spells and no other, and the program answers as the query does in every world
-pub record IsRight (query : Oql) (text : List ℕ) : Type 0 where
+-- the text is the one layout of a program, which it spells and no other, and the program answers as the query does in every world of the schema
+pub record IsRight (schema : SchemaOf) (query : Oql) (text : List ℕ) : Type 0 where
   pub program : Js
   pub is_layout : text ≡ layout program
   pub spells : Spells text program
   pub only : (other : Js) → Spells text other → other ≡ program
-  pub each : (world : Datum) → IsWorld world → AnswersAs query program world
+  pub each : (world : Datum) → IsWorld schema world → AnswersAs query program world

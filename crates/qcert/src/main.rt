@@ -6,6 +6,7 @@ mod job;
 mod lower;
 mod refusal;
 mod run;
+mod stages;
 #[cfg(test)]
 mod tests;
 

@@ -17,6 +17,10 @@ pub enum Refusal {
     Usage,
     /// The file could not be read.
     ReadFault(File),
+    /// The file has more bytes than are taken.
+    TooLong(File),
+    /// The file has no schema.
+    BadSchema,
     /// The query is of a form that is not compiled yet.
     Unbuilt,
     /// The output took only a front of the answer.
@@ -47,7 +51,7 @@ impl Refusal {
         match self {
             Refusal::Usage => 2,
             Refusal::ReadFault(_) => 3,
-            Refusal::Unbuilt => 1,
+            Refusal::TooLong(_) | Refusal::BadSchema | Refusal::Unbuilt => 1,
             Refusal::WriteFault => 4,
             Refusal::Memory => 5,
         }
@@ -63,6 +67,11 @@ impl Refusal {
             Refusal::ReadFault(File::Query) => "qcert: ReadFault query\n",
             Refusal::ReadFault(File::Input) => "qcert: ReadFault input\n",
             Refusal::ReadFault(File::Script) => "qcert: ReadFault script\n",
+            Refusal::TooLong(File::Schema) => "qcert: TooLong schema\n",
+            Refusal::TooLong(File::Query) => "qcert: TooLong query\n",
+            Refusal::TooLong(File::Input) => "qcert: TooLong input\n",
+            Refusal::TooLong(File::Script) => "qcert: TooLong script\n",
+            Refusal::BadSchema => "qcert: BadSchema\n",
             Refusal::Unbuilt => "qcert: Unbuilt\n",
             Refusal::WriteFault => "qcert: WriteFault\n",
             Refusal::Memory => "qcert: Memory\n",

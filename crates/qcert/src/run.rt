@@ -15,8 +15,9 @@ use std::rc::RcStr;
 
 /// Answers the words of a call, of which the first is the program's name, and gives the exit status.
 ///
-/// The words `qcert compile --source oql --query FILE` ask for the JavaScript of the query in FILE. It is put into `out`
-/// whole and the status is 0, or `err` gets one line that tells the refusal and the status is the refusal's.
+/// The words `qcert compile --source oql --query QUERY`, and then maybe `--schema SCHEMA`, ask for the JavaScript of the query
+/// in the file QUERY, in the schema of the file SCHEMA. It is put into `out` whole and the status is 0, or `err` gets one
+/// line that tells the refusal and the status is the refusal's.
 pub fn run<S: Shelf, O: Sink, E: Sink>(
     alloc: Global,
     words: &[RcStr],
@@ -32,7 +33,7 @@ pub fn run<S: Shelf, O: Sink, E: Sink>(
     // At status 0 what was added to the output is right for the query.
     ensures compiled { result ≡ 0 → Compiled (map rc_str_bytes words.now) (S.texts shelf.old) (O.written out.old) (O.written out.new) }
 
-    // A query of the first form is compiled, unless a device failed or memory was wanting.
+    // A query of the first form in a schema is compiled, unless a device failed or memory was wanting.
     ensures complete { (texts : Texts) → S.texts shelf.old ≡ Some texts → IsServed (map rc_str_bytes words.now) texts
         → ¬ Rose (S.faults shelf.old) (S.faults shelf.new) → ¬ Rose (O.faults out.old) (O.faults out.new) → (result ≡ 0) ⊎ (result ≡ 5) }
 

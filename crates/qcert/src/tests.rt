@@ -7,6 +7,13 @@ use std::test::Fail;
 
 const COMPILE: &str = "qcert compile --source oql --query q";
 
+const IN_SCHEMA: &str = "qcert compile --source oql --query q --schema s";
+
+const EMPLOYEES: &str =
+    "{\"version\":1,\"classes\":[],\"globals\":{\"emp\":{\"bag\":{\"record\":{\"age\":\"int\",\"dept\":\"text\",\"name\":\"text\"}}}}}";
+
+const HIDDEN: &str = "{\"version\":1,\"classes\":[],\"globals\":{\"$x\":\"int\"}}";
+
 const SUM: &str = "function query(w, rt) { return rt.add(1n, 2n); }\n";
 
 // The devices of a call.
@@ -78,7 +85,10 @@ fn other_words_are_usage(rt: HostRuntime) -> Result<(), Fail> {
         "qcert compile --source oql",
         "qcert run --source oql --query q",
         "qcert compile --source sql --query q",
-        "qcert compile --source oql --query q --schema s",
+        "qcert compile --source oql --query q --schema",
+        "qcert compile --source oql --query q --input s",
+        "qcert compile --source oql --schema s --query q",
+        "qcert compile --source oql --query q --schema s more",
     ];
     for words in rows {
         let mut devices = Devices::with(alloc, "1 + 2")?;
@@ -105,6 +115,77 @@ fn a_failing_shelf_is_a_read_fault(rt: HostRuntime) -> Result<(), Fail> {
     devices.shelf.fail_at(1)?;
     assert_eq!(rt; devices.status(alloc, COMPILE)?, 3);
     assert!(rt; devices.has_written("", "qcert: ReadFault query\n"));
+    Ok(())
+}
+
+#[test]
+fn a_schema_is_read_before_the_query(rt: HostRuntime) -> Result<(), Fail> {
+    let alloc = rt.alloc();
+    let rows = [
+        (EMPLOYEES, "1 + 2", 0, SUM, ""),
+        (EMPLOYEES, "x", 1, "", "qcert: Unbuilt\n"),
+        (HIDDEN, "x", 1, "", "qcert: BadSchema\n"),
+        ("", "1 + 2", 1, "", "qcert: BadSchema\n"),
+    ];
+    for (schema, query, status, text, line) in rows {
+        let mut devices = Devices::with(alloc, query)?;
+        devices.shelf.add("s", schema.as_bytes())?;
+        assert_eq!(rt; devices.status(alloc, IN_SCHEMA)?, status, "{schema}");
+        assert!(rt; devices.has_written(text, line), "{schema}");
+    }
+    Ok(())
+}
+
+#[test]
+fn a_missing_schema_is_a_read_fault(rt: HostRuntime) -> Result<(), Fail> {
+    let alloc = rt.alloc();
+    let mut devices = Devices::with(alloc, "1 + 2")?;
+    assert_eq!(rt; devices.status(alloc, IN_SCHEMA)?, 3);
+    assert!(rt; devices.has_written("", "qcert: ReadFault schema\n"));
+    Ok(())
+}
+
+// So many blanks.
+fn blanks(alloc: Global, count: usize) -> Result<Vec<u8>, Memory> {
+    let mut bytes = Vec::new(alloc);
+    for _ in 0..count {
+        bytes.push(b' ')?;
+    }
+    Ok(bytes)
+}
+
+#[test]
+fn a_file_has_a_limit(rt: HostRuntime) -> Result<(), Fail> {
+    let alloc = rt.alloc();
+    let rows = [
+        (0, 65537, "qcert: BadSchema\n"),
+        (1048577, 0, "qcert: TooLong schema\n"),
+    ];
+    for (schema, query, line) in rows {
+        let mut devices = Devices::with(alloc, "")?;
+        devices.shelf.add("s", &blanks(alloc, schema)?)?;
+        devices.shelf.add("long", &blanks(alloc, query)?)?;
+        let words = "qcert compile --source oql --query long --schema s";
+        assert_eq!(rt; devices.status(alloc, words)?, 1, "{schema}");
+        assert!(rt; devices.has_written("", line), "{schema}");
+    }
+    Ok(())
+}
+
+#[test]
+fn a_query_has_a_limit(rt: HostRuntime) -> Result<(), Fail> {
+    let alloc = rt.alloc();
+    let rows = [
+        (65536, "qcert: Unbuilt\n"),
+        (65537, "qcert: TooLong query\n"),
+    ];
+    for (count, line) in rows {
+        let mut devices = Devices::with(alloc, "")?;
+        devices.shelf.add("long", &blanks(alloc, count)?)?;
+        let status = devices.status(alloc, "qcert compile --source oql --query long")?;
+        assert_eq!(rt; status, 1, "{count}");
+        assert!(rt; devices.has_written("", line), "{count}");
+    }
     Ok(())
 }
 

@@ -1,0 +1,6 @@
+mod Converted
+mod Described
+mod Named
+mod Returning
+mod Sending
+pub mod TreeLayers

@@ -1,0 +1,20 @@
+//! JSON in and out: trees, schema files, inputs and the texts of types.
+#![tactic(auto)]
+
+mod describing;
+mod faults;
+mod input;
+mod reading;
+mod schema;
+mod sound;
+#[cfg(test)]
+mod tests;
+mod typing;
+mod writing;
+
+pub use describing::type_text;
+pub use faults::{InputFault, SchemaFault};
+pub use input::read_input;
+pub use reading::read_json;
+pub use schema::read_schema;
+pub use writing::json_text;
