@@ -1,0 +1,11 @@
+pub mod ColumnLaws
+pub mod Folds
+pub mod Groups
+pub mod Keeping
+pub mod Means
+pub mod OperatorLaws
+pub mod Overlays
+pub mod Patterns
+pub mod Products
+pub mod RowOrder
+pub mod SameTests

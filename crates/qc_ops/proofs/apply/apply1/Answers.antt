@@ -1,0 +1,5 @@
+use Rattle.qc_ops.proofs.OperatorLaws.{agrees_unary}
+use Rattle.qc_ops.proofs.apply.apply1.Goals as goal
+
+pub returns-clause-agrees : goal.returns-clause-agrees
+returns-clause-agrees c = λ low high. agrees_unary low high c.args.classes.now c.args.op.now c.args.a.now

@@ -1,0 +1,14 @@
+pub mod Operands
+pub mod Sameness
+pub mod Truths
+pub mod Numbers
+pub mod Texts
+pub mod Bags
+pub mod Records
+pub mod Sides
+pub mod Sorting
+pub mod Grouping
+pub mod Keeping
+pub mod Likeness
+pub mod Columns
+pub mod Operators

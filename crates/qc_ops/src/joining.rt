@@ -1,0 +1,67 @@
+// Two records in one.
+ghost use Rattle.std.specs.Prelude.{◌≡◌, [], ◌∷◌, ◌++◌, OnOk, IfOk};
+ghost use Rattle.qc_data.specs.Rising.{Rising};
+ghost use Rattle.qc_ops.specs.Records.{over};
+
+use qc_data::{Datum, Fields, Memory, Name, copy};
+use std::alloc::Global;
+use std::cmp::Ordering;
+
+// All fields, the second's on shared names, in one pass over both.
+pub(crate) fn over(alloc: Global, first: &Fields, second: &Fields) -> Result<Fields, Memory>
+    ensures { IfOk result (λ made. made ≡ over first.now second.now) }
+{
+    let left = first.as_slice();
+    let right = second.as_slice();
+    let mut all = Fields::new(alloc);
+    let mut at = 0;
+    let mut to = 0;
+    while at < left.len() && to < right.len() {
+        let mine = &left[at];
+        let theirs = &right[to];
+        match mine.0.as_str().cmp(theirs.0.as_str()) {
+            Ordering::Less => {
+                put_last(alloc, &mut all, mine)?;
+                at += 1;
+            }
+            Ordering::Equal => at += 1,
+            Ordering::Greater => {
+                put_last(alloc, &mut all, theirs)?;
+                to += 1;
+            }
+        }
+    }
+    put_all_last(alloc, &mut all, &left[at..])?;
+    put_all_last(alloc, &mut all, &right[to..])?;
+    Ok(all)
+}
+
+// Puts a copy of the field last.
+pub(crate) fn put_last(alloc: Global, all: &mut Fields, pair: &(Name, Datum)) -> Result<(), Memory>
+    requires { Rising (all.old ++ pair.now ∷ []) }
+    ensures { OnOk result (all.new ≡ all.old ++ pair.now ∷ []) }
+{
+    let name = pair.0.copy(alloc)?;
+    let value = copy(alloc, &pair.1)?;
+    all.add(name, value)
+}
+
+// Puts copies of the fields last.
+fn put_all_last(alloc: Global, all: &mut Fields, more: &[(Name, Datum)]) -> Result<(), Memory>
+    requires { Rising (all.old ++ more.now) }
+    ensures { OnOk result (all.new ≡ all.old ++ more.now) }
+{
+    for pair in more {
+        put_last(alloc, all, pair)?;
+    }
+    Ok(())
+}
+
+// The same fields.
+pub(crate) fn copy_fields(alloc: Global, fields: &Fields) -> Result<Fields, Memory>
+    ensures { IfOk result (λ made. made ≡ fields.now) }
+{
+    let mut all = Fields::new(alloc);
+    put_all_last(alloc, &mut all, fields.as_slice())?;
+    Ok(all)
+}

@@ -1,0 +1,29 @@
+//! The operators of queries: 25 on one value and 17 on two, with their values in 64 bits.
+#![tactic(auto)]
+
+mod aggregates;
+mod apply;
+mod bags;
+mod columns;
+mod copies;
+mod divisor;
+mod grouping;
+mod joining;
+mod numbers;
+mod op;
+mod operands;
+mod pattern;
+mod records;
+mod sides;
+mod sorting;
+#[cfg(test)]
+mod tests;
+mod texts;
+#[cfg(test)]
+mod trial;
+mod truths;
+
+pub use apply::{apply1, apply2};
+pub use divisor::Divisor;
+pub use op::{Binary, Keys, Names, Unary};
+pub use pattern::like;

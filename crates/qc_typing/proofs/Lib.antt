@@ -1,0 +1,12 @@
+pub mod Outcomes
+pub mod RisingLaws
+pub mod FieldLaws
+pub mod Values
+pub mod RecordValues
+pub mod BagValues
+pub mod RowValues
+pub mod UnarySound
+pub mod BinarySound
+pub mod Layers
+pub mod Answered
+pub mod WorldValues

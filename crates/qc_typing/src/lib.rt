@@ -1,0 +1,18 @@
+//! The types that operators give, by the types of their operands.
+#![tactic(auto)]
+
+mod bags;
+mod binary;
+mod classes;
+mod fields;
+mod kinds;
+mod records;
+mod rows;
+#[cfg(test)]
+mod samples;
+#[cfg(test)]
+mod tests;
+mod unary;
+
+pub use binary::type2;
+pub use unary::type1;
