@@ -25,7 +25,7 @@ use std::env;
 
 fn main(rt: HostRuntime) {
     let times = match env::args(&rt) {
-        Ok(words) => words.count() - 1,
+        Ok(words) => words.count().saturating_sub(1),
         Err(_) => 0,
     };
     let mut shelf = FileShelf::new(&rt);

@@ -1,0 +1,10 @@
+mod Alike
+mod Begins
+mod Exactness
+mod Nodes
+mod Optional
+mod Pieces
+mod Scanned
+mod Sizes
+mod Views
+mod Whole
