@@ -1,5 +1,2 @@
-pub mod Answered
-pub mod Meanings
-mod Readings
-mod Scanning
-mod Values
+pub mod Places
+pub mod QueryLaws

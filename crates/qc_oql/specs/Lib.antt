@@ -1,5 +1,2 @@
-pub mod Finding
-pub mod FirstForm
-pub mod Grammar
-pub mod Meaning
-pub mod Tokens
+pub mod Faults
+pub mod Queries

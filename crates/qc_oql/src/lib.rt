@@ -1,17 +1,8 @@
-//! The reader of the first queries, closed sums of integers in OQL: bytes to the one tree that they spell.
+//! OQL queries in the text of a file: read and checked in a schema, or the first fault and its place.
 #![tactic(auto)]
 
-mod cursor;
-mod digits;
-mod parse;
-mod reader;
-mod scan;
-mod scanner;
-mod token;
-mod tree;
+mod fault;
+mod reading;
 
-pub use reader::read;
-pub use tree::Oql;
-
-#[cfg(test)]
-mod tests;
+pub use fault::QueryFault;
+pub use reading::{TypedQuery, read};

@@ -2,7 +2,7 @@
 use Rattle.std.proofs.Common.{◌≡◌, ℕ, List, [], ◌∷◌, Option, Some, None, Bool, true, false, ◌&&◌, cond, IsTrue, ◌↔◌, refl, sym, ap, ◌∙◌, subst, rules, tests}
 use Rattle.std.specs.Str.{bytes_eq}
 use Rattle.std.proofs.lemmas.Slice.Eq.{bytes_eq-Decides}
-use Rattle.qc_data.specs.Facts.{within64}
+use Rattle.qc_data.specs.Facts.{rising, within64}
 use Rattle.qc_data.specs.Name.{IsUser}
 use Rattle.qc_data.specs.Pairs.{lookup}
 use Rattle.qc_data.specs.declared.data.Datum.{Datum}
@@ -27,13 +27,19 @@ user_is (b ∷ bs) = search (rules, tests)
 
 module _ (c : Defs) (gs : List (List ℕ × Ty)) (d : Datum) (w : IsTrue (is_world c gs d)) where
   pub world_fits : IsTrue (fits c d (ty.Rec Exact gs))
-  world_fits = (and_parts (fits c d (ty.Rec Exact gs)) (user_named d && within64 d) w).0
+  world_fits = (and_parts (fits c d (ty.Rec Exact gs)) (user_named d && (rising d && within64 d)) w).0
+
+  further : IsTrue (user_named d && (rising d && within64 d))
+  further = (and_parts (fits c d (ty.Rec Exact gs)) (user_named d && (rising d && within64 d)) w).1
 
   pub world_named : IsTrue (user_named d)
-  world_named = (and_parts (user_named d) (within64 d) (and_parts (fits c d (ty.Rec Exact gs)) (user_named d && within64 d) w).1).0
+  world_named = (and_parts (user_named d) (rising d && within64 d) further).0
+
+  pub world_rising : IsTrue (rising d)
+  world_rising = (and_parts (rising d) (within64 d) (and_parts (user_named d) (rising d && within64 d) further).1).0
 
   pub world_within : IsTrue (within64 d)
-  world_within = (and_parts (user_named d) (within64 d) (and_parts (fits c d (ty.Rec Exact gs)) (user_named d && within64 d) w).1).1
+  world_within = (and_parts (rising d) (within64 d) (and_parts (user_named d) (rising d && within64 d) further).1).1
 
 out-Rec : (gs : List (List ℕ × Ty)) → out-Ty (ty.Rec Exact gs) ≡ Ty-F.Rec Exact gs
 out-Rec gs = search (rules, the_lemmas)

@@ -14,7 +14,7 @@ use Rattle.qc_types.specs.Rows.{at_field}
 use Rattle.qc_types.specs.Schemas.{fields_at, global, is_world}
 use Rattle.qc_types.specs.Types.{fits}
 use Rattle.qc_types.proofs.Inductions.{found as value_at}
-use Rattle.qc_types.proofs.WorldLaws.{world_fits}
+use Rattle.qc_types.proofs.WorldLaws.{world_fits, world_rising}
 use Rattle.qc_ops.specs.Operands.{as_rec}
 use Rattle.qc_typing.specs.Kinds.{record_at, record_parts}
 use Rattle.qc_typing.specs.Typed.{HasType}
@@ -24,8 +24,8 @@ use Rattle.qc_typing.proofs.RecordValues.{fields_at_names}
 
 module _ (c : Defs) (gs : List (List ℕ × Ty)) (d : Datum) where
   -- a world is a record of exactly its globals
-  pub world_typed : IsTrue (is_world c gs d) → IsTrue (rising d) → HasType c d (ty.Rec Exact gs)
-  world_typed w r = record { fitting = world_fits c gs d w; records = r }
+  pub world_typed : IsTrue (is_world c gs d) → HasType c d (ty.Rec Exact gs)
+  world_typed w = record { fitting = world_fits c gs d w; records = world_rising c gs d w }
 
   field_typed : (n : List ℕ) (t : Ty) (fs : List (List ℕ × Datum)) (o : Option Datum) → lookup n fs ≡ o → Fields c Exact gs fs → IsTrue (at_field (fits c) o (Some t)) → (v : Datum) × (o ≡ Some v) × HasType c v t
   field_typed n t fs None e f h = absurd (cc)

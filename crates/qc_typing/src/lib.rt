@@ -4,6 +4,7 @@
 mod bags;
 mod binary;
 mod classes;
+mod fault;
 mod fields;
 mod kinds;
 mod records;
@@ -15,4 +16,5 @@ mod tests;
 mod unary;
 
 pub use binary::type2;
+pub use fault::TypeFault;
 pub use unary::type1;

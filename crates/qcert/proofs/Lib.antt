@@ -1,5 +1,11 @@
-pub mod Forms
+pub mod ActionLemmas
+pub mod Bags
+pub mod Evaluated
+pub mod FileLemmas
+pub mod Lines
 pub mod Lowered
 pub mod RanLemmas
+pub mod Refusing
 pub mod Right
+pub mod Serving
 pub mod StageLemmas

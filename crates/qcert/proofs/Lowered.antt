@@ -1,27 +1,46 @@
--- The expression that a query becomes answers the encoding of the query's answer, in each mode and world.
-use Rattle.std.proofs.Common.{◌≡◌, ◌∙◌, ap, refl, sym, List, [], ◌∷◌, ℤ, map}
-use Rattle.std.specs.List.{AllByRecursion}
+-- The expression that a query becomes answers the encoding of the query's answer, in each mode and world, and its calls have
+-- as many arguments as their functions take.
+use Rattle.std.proofs.Common.{◌≡◌, ◌∙◌, ap, refl, sym, subst, List, [], ◌∷◌, ℤ, ◌==◌, ◌++◌, true, map, Option, Some}
 use Rattle.qc_data.specs.declared.data.Datum.{Datum}
-use Rattle.qc_data.specs.declared.data.Datum.TheVariants as datum
 use Rattle.qc_data.specs.declared.data.Json.{Json}
 use Rattle.qc_data.specs.declared.data.Json.TheVariants as json
 use Rattle.qc_data.specs.Encoding.{enc, encoded}
-use Rattle.qc_data.specs.Kinds.{as_int, json_int, made, json_made, total}
-use Rattle.qc_data.specs.Outcome.{Mode, Outcome, Value, Halts, and_then, each, in_order}
-use Rattle.qc_data.proofs.Encoded.{enc-Int, json_int-enc, json_made-enc, each-encoded}
-use Rattle.qc_data.proofs.Outcomes.{each-map}
-use Rattle.qc_data.proofs.KindLaws.{as_coll-Coll, json_array-Array}
-use Rattle.qc_oql.specs.declared.tree.Oql.{Oql}
-use Rattle.qc_oql.specs.Meaning.{oql, negate, add, sum_up}
-use Rattle.qc_oql.proofs.Meanings.{oql-Whole, oql-Negative, oql-Add, oql-Sum, by_forms}
+use Rattle.qc_data.specs.Kinds.{as_int, as_coll, json_int, made, json_made, total}
+use Rattle.qc_data.specs.Outcome.{Mode, Outcome, Value, Halts, and_then, each, alone, in_order}
+use Rattle.qc_data.proofs.Encoded.{enc-Int, enc-Coll, json_int-enc, json_array-enc, json_made-enc}
+use Rattle.qc_types.specs.Classes.{Defs}
+use Rattle.qc_types.specs.Schemas.{WorldOf}
 use Rattle.qc_js.specs.declared.tree.Expr.{Expr}
-use Rattle.qc_js.specs.declared.tree.Expr.TheVariants.{Array}
-use Rattle.qc_js.specs.declared.tree.Function.TheVariants as function
+use Rattle.qc_js.specs.declared.tree.Expr.TheVariants.{Int, Array}
+use Rattle.qc_js.specs.declared.tree.Function.{Function}
+use Rattle.qc_js.specs.declared.tree.Function.TheVariants.{Add, Negate, Sum}
 use Rattle.qc_js.specs.Meaning.{js_expr}
-use Rattle.qc_js.specs.Runtime.{call, rt_add, rt_negate, rt_sum}
+use Rattle.qc_js.specs.Program.{all_true, arity, has_arities}
+use Rattle.qc_js.specs.Runtime.{call}
+use Rattle.qc_js.proofs.Forms.{has_arities-Int, has_arities-Array, has_arities-Call}
 use Rattle.qc_js.proofs.Meanings.{js_expr-Int, js_expr-Array, js_expr-Call}
-use Rattle.qcert.specs.Lowering.{lowered}
-use Rattle.qcert.proofs.Forms.{lowered-Whole, lowered-Negative, lowered-Add, lowered-Sum}
+use Rattle.qc_ops.specs.Numbers.{addition}
+use Rattle.qc_ops.specs.Operands.{bag}
+use Rattle.qc_oql_tree.specs.declared.tree.Binary.{Binary}
+use Rattle.qc_oql_tree.specs.declared.tree.Binary.TheVariants as binary
+use Rattle.qc_oql_tree.specs.declared.tree.Unary.{Unary}
+use Rattle.qc_oql_tree.specs.declared.tree.Unary.TheVariants as unary
+use Rattle.qc_oql_tree.specs.declared.tree.Oql.{Oql}
+use Rattle.qc_oql_tree.specs.declared.tree.Oql.TheOpen.{Oql-F}
+use Rattle.qc_oql_tree.specs.declared.tree.Oql.TheViews.{roll-Oql}
+use Rattle.qc_oql_tree.specs.declared.tree.Oql.TheFolds.{map-Oql, fold-roll-Oql, ind-Oql}
+use Rattle.qc_oql_tree.specs.declared.tree.Filter.{Filter}
+use Rattle.qc_oql_tree.specs.declared.tree.Key.{Key}
+use Rattle.qc_oql_tree.specs.declared.tree.Named.{Named}
+use Rattle.qc_oql_tree.specs.declared.tree.Order.{Order}
+use Rattle.qc_oql_tree.specs.declared.tree.Select.{Select}
+use Rattle.qc_oql_eval.specs.Meaning.{form, filter_form, key_form, named_form, order_form, select_form, oql, filter, key, named, order, select}
+use Rattle.qc_oql_eval.specs.Selecting.{KeyMeaning}
+use Rattle.qc_oql_eval.specs.Bindings.{Bindings, Meaning}
+use Rattle.qc_oql_eval.specs.Forms.{NamedMeaning, by_pairing}
+use Rattle.qc_oql_eval.specs.Operators.{one_value, pairing_of}
+use Rattle.qcert.proofs.Bags.{there, mapped}
+use Rattle.qcert.specs.Lowering.{all_there, called_one, called_two, lower_form, lowered}
 
 -- ---- the runtime's functions on encodings
 
@@ -29,15 +48,9 @@ int_made : (m : Mode) (f : ℤ → ℤ) (o : Outcome ℤ) → and_then o (λ n. 
 int_made m f (Value n) = json_made-enc m (f n)
 int_made m f (Halts why) = refl
 
-negate_same : (m : Mode) (d : Datum) → rt_negate m (enc d) ≡ encoded (negate m d)
-negate_same m d = rw (json_int-enc d) (int_made m _ (as_int d))
-
 ints_made : (m : Mode) (f : ℤ → ℤ → ℤ) (o p : Outcome ℤ) → and_then o (λ n. and_then p (λ k. json_made m (f n k))) ≡ encoded (and_then o (λ n. and_then p (λ k. made m (f n k))))
 ints_made m f (Value n) p = int_made m (f n) p
 ints_made m f (Halts why) p = refl
-
-add_same : (m : Mode) (a b : Datum) → rt_add m (enc a) (enc b) ≡ encoded (add m a b)
-add_same m a b = rw (json_int-enc a, json_int-enc b) (ints_made m _ (as_int a) (as_int b))
 
 ints_same : (ds : List Datum) → each json_int (map enc ds) ≡ each as_int ds
 ints_same [] = refl
@@ -47,46 +60,144 @@ total_made : (m : Mode) (o : Outcome (List ℤ)) → and_then o (λ ns. json_mad
 total_made m (Value ns) = json_made-enc m (total ns)
 total_made m (Halts why) = refl
 
-sum_same : (m : Mode) (ds : List Datum) → rt_sum m (json.Array (map enc ds)) ≡ encoded (sum_up m (datum.Coll ds))
-sum_same m ds = rw (json_array-Array (map enc ds), as_coll-Coll ds, ints_same ds) (total_made m (each as_int ds))
+sum_made : (m : Mode) (o : Outcome (List Datum)) → and_then (and_then o (λ xs. Value (map enc xs))) (λ js. and_then (each json_int js) (λ ns. json_made m (total ns)))
+    ≡ encoded (and_then (and_then o (λ xs. each as_int xs)) (λ ns. made m (total ns)))
+sum_made m (Value ds) = rw (ints_same ds) (total_made m (each as_int ds))
+sum_made m (Halts why) = refl
 
--- ---- calls whose arguments have encoded outcomes
-
+-- calls whose arguments have encoded outcomes
 one_argument : (o : Outcome Datum) (f : Datum → Outcome Datum) (g : List Json → Outcome Json) → ((d : Datum) → g (enc d ∷ []) ≡ encoded (f d)) → and_then (in_order (encoded o ∷ [])) g ≡ encoded (and_then o f)
 one_argument (Value d) f g h = h d
 one_argument (Halts why) f g h = refl
 
 two_arguments : (o p : Outcome Datum) (f : Datum → Datum → Outcome Datum) (g : List Json → Outcome Json) → ((a b : Datum) → g (enc a ∷ enc b ∷ []) ≡ encoded (f a b))
-    → and_then (in_order (encoded o ∷ encoded p ∷ [])) g ≡ encoded (and_then o (λ a. and_then p (f a)))
+    → and_then (in_order (encoded o ∷ encoded p ∷ [])) g ≡ encoded (and_then o (λ a. and_then p (λ b. f a b)))
 two_arguments (Value a) (Value b) f g h = h a b
 two_arguments (Value a) (Halts why) f g h = refl
 two_arguments (Halts why) p f g h = refl
 
-array_argument : (o : Outcome (List Datum)) (f : List Datum → Outcome Datum) (g : List Json → Outcome Json) → ((ds : List Datum) → g (json.Array (map enc ds) ∷ []) ≡ encoded (f ds))
-    → and_then (in_order (and_then (and_then o (λ ds. Value (map enc ds))) (λ js. Value (json.Array js)) ∷ [])) g ≡ encoded (and_then o f)
-array_argument (Value ds) f g h = h ds
-array_argument (Halts why) f g h = refl
+-- operators that are functions of the runtime
+arity_one : (op : Unary) (f : Function) → called_one op ≡ Some f → (1 == arity f) ≡ true
+arity_one unary.Neg Negate e = refl
+arity_one unary.Sum Sum e = refl
+arity_one op f e = absurd (cc)
 
--- ---- by induction over queries
+one_same : (m : Mode) (c : Defs) (op : Unary) (f : Function) → called_one op ≡ Some f → (d : Datum) → call m f (enc d ∷ []) ≡ encoded (one_value m c op d)
+one_same m c unary.Neg Negate e d = rw (json_int-enc d) (int_made m _ (as_int d))
+one_same m c unary.Sum Sum e d = rw (json_array-enc d) (sum_made m (as_coll d))
+one_same m c op f e d = absurd (cc)
 
-module _ (m : Mode) (w : Datum) where
-  abbrev js_at : Expr → Outcome Json
-  js_at e = js_expr m e (enc w)
+arity_two : (op : Binary) (f : Function) → called_two op ≡ Some f → (2 == arity f) ≡ true
+arity_two binary.Add Add e = refl
+arity_two op f e = absurd (cc)
 
-  abbrev oql_at : Oql → Outcome Datum
-  oql_at q = oql m q w
+two_same : (m : Mode) (op : Binary) (f : Function) → called_two op ≡ Some f → (a b : Meaning) (s : Bindings)
+    → and_then (in_order (encoded (a s) ∷ encoded (b s) ∷ [])) (call m f) ≡ encoded (by_pairing m (pairing_of op) a b s)
+two_same m binary.Add Add e a b s = two_arguments (a s) (b s) (addition m) (call m Add) (λ x y. rw (json_int-enc x, json_int-enc y) (ints_made m _ (as_int x) (as_int y)))
+two_same m op f e a b s = absurd (cc)
 
-  abbrev IsSame : Oql → Type 0
-  IsSame q = js_at (lowered q) ≡ encoded (oql_at q)
+-- ---- trees with what they become
 
-  members_same : (qs : List Oql) → AllByRecursion IsSame qs → each js_at (map lowered qs) ≡ and_then (each oql_at qs) (λ ds. Value (map enc ds))
-  members_same qs h = each-map js_at lowered qs ∙ each-encoded (λ q. js_at (lowered q)) oql_at qs h
+-- the expression answers the encoding of what the meaning gives, and its calls have their arguments
+pub record IsSame (meaning : Mode → WorldOf → Meaning) (e : Expr) : Type 0 where
+  pub arities : has_arities e ≡ true
+  pub same : (m : Mode) (w : WorldOf) (s : Bindings) → js_expr m e (enc w.datum) ≡ encoded (meaning m w s)
 
-  pub lowered_same : (q : Oql) → IsSame q
-  lowered_same = by_forms IsSame
-      (λ n. rw (lowered-Whole n, js_expr-Int m n (enc w), oql-Whole m n w) (ap Value (sym (enc-Int n))))
-      (λ q h. rw (lowered-Negative q, js_expr-Call m function.Negate (lowered q ∷ []) (enc w), oql-Negative m q w, h) (one_argument (oql_at q) (negate m) (call m function.Negate) (negate_same m)))
-      (λ p q h k. rw (lowered-Add p q, js_expr-Call m function.Add (lowered p ∷ lowered q ∷ []) (enc w), oql-Add m p q w, h, k)
-      (two_arguments (oql_at p) (oql_at q) (add m) (call m function.Add) (add_same m)))
-      (λ qs h. rw (lowered-Sum qs, js_expr-Call m function.Sum (Array (map lowered qs) ∷ []) (enc w), oql-Sum m qs w, js_expr-Array m (map lowered qs) (enc w), members_same qs h)
-      (array_argument (each oql_at qs) (λ ds. sum_up m (datum.Coll ds)) (call m function.Sum) (sum_same m)))
+abbrev OfOql : Oql → Type 0
+OfOql x = (e : Expr) → lowered x ≡ Some e → IsSame (λ m w. oql m w x) e
+
+-- the other trees become nothing
+abbrev Any : {A : Type 0} → A → Type 0
+Any x = Unit {0}
+
+abbrev Part : Type 0
+Part = (x : Oql) × OfOql x
+
+abbrev Parts : Type 0
+Parts = Oql-F Part ((x : Filter) × Any x) ((x : Key) × Any x) ((x : Named) × Any x) ((x : Order) × Any x) ((x : Select) × Any x)
+
+abbrev trees : Parts → Oql-F Oql Filter Key Named Order Select
+trees p = map-Oql Part ((x : Filter) × Any x) ((x : Key) × Any x) ((x : Named) × Any x) ((x : Order) × Any x) ((x : Select) × Any x) Oql Filter Key Named Order Select (λ e. e.0) (λ e. e.0) (λ e. e.0) (λ e. e.0) (λ e. e.0) (λ e. e.0) p
+
+-- the layer of a tree whose parts have become expressions
+abbrev lowered_at : Oql-F Oql Filter Key Named Order Select → Option Expr
+lowered_at x = lower_form (map-Oql Oql Filter Key Named Order Select (Option Expr) (Unit {0}) (Unit {0}) (Unit {0}) (Unit {0}) (Unit {0}) lowered (λ f. tt) (λ k. tt) (λ n. tt) (λ o. tt) (λ s. tt) x)
+
+abbrev meaning_at : Oql-F Oql Filter Key Named Order Select → Mode → WorldOf → Meaning
+meaning_at x m w = form m w (map-Oql Oql Filter Key Named Order Select Meaning Meaning KeyMeaning NamedMeaning (List KeyMeaning) Meaning (oql m w) (filter m w) (key m w) (named m w) (order m w) (select m w) x)
+
+-- a member and the others
+cons_same : (o : Outcome Datum) (os : Outcome (List Datum)) → and_then (alone (encoded o)) (λ ys. and_then (and_then os (λ ds. Value (map enc ds))) (λ zs. Value (ys ++ zs)))
+    ≡ and_then (and_then (alone o) (λ ys. and_then os (λ zs. Value (ys ++ zs)))) (λ ds. Value (map enc ds))
+cons_same (Value d) (Value ds) = refl
+cons_same (Value d) (Halts why) = refl
+cons_same (Halts why) os = refl
+
+array_made : (o : Outcome (List Datum)) → and_then (and_then o (λ ds. Value (map enc ds))) (λ js. Value (json.Array js)) ≡ encoded (bag o)
+array_made (Value ds) = ap Value (sym (enc-Coll ds))
+array_made (Halts why) = refl
+
+record AreSame (ps : List Part) (es : List Expr) : Type 0 where
+  arities : all_true (map has_arities es) ≡ true
+  same : (m : Mode) (w : WorldOf) (s : Bindings) → each (λ e. js_expr m e (enc w.datum)) es ≡ and_then (each (λ member. member s) (map (oql m w) (map (λ p. p.0) ps))) (λ ds. Value (map enc ds))
+
+members : (ps : List Part) (es : List Expr) → all_there (map lowered (map (λ p. p.0) ps)) ≡ Some es → AreSame ps es
+members [] [] h = record { arities = refl; same = λ m w s. refl }
+members [] (e ∷ es) h = absurd (cc)
+members (p ∷ ps) es h =
+    let a = there _ (lowered p.0) es h in
+    let b = mapped _ (all_there (map lowered (map (λ p. p.0) ps))) es a.2 in
+    let first = p.1 a.0 a.1 in
+    let rest = members ps b.0 b.1 in
+    subst (AreSame (p ∷ ps)) b.2 (record {
+      arities = rw (first.arities, rest.arities) refl;
+      same = λ m w s. rw (first.same m w s, rest.same m w s) (cons_same (oql m w p.0 s) (each (λ member. member s) (map (oql m w) (map (λ p. p.0) ps))));
+    })
+
+layer : (p : Parts) (e : Expr) → lowered_at (trees p) ≡ Some e → IsSame (meaning_at (trees p)) e
+layer (Oql-F.Whole at n) e h =
+    let is : Int n ≡ e = let same : Some (Int n) ≡ Some e = h in cc in
+    subst (IsSame (meaning_at (trees (Oql-F.Whole at n)))) is (record {
+      arities = has_arities-Int n;
+      same = λ m w s. js_expr-Int m n (enc w.datum) ∙ ap Value (sym (enc-Int n));
+    })
+layer (Oql-F.Bag at ps) e h =
+    let a = mapped Array (all_there (map lowered (map (λ p. p.0) ps))) e h in
+    let all = members ps a.0 a.1 in
+    subst (IsSame (meaning_at (trees (Oql-F.Bag at ps)))) a.2 (record {
+      arities = rw (has_arities-Array a.0) all.arities;
+      same = λ m w s. rw (js_expr-Array m a.0 (enc w.datum), all.same m w s) (array_made (each (λ member. member s) (map (oql m w) (map (λ p. p.0) ps))));
+    })
+layer (Oql-F.Unary at op p) e h =
+    let a = there _ (called_one op) e h in
+    let b = mapped _ (lowered p.0) e a.2 in
+    let part = p.1 b.0 b.1 in
+    subst (IsSame (meaning_at (trees (Oql-F.Unary at op p)))) b.2 (record {
+      arities = rw (has_arities-Call a.0 (b.0 ∷ []), part.arities, arity_one op a.0 a.1) refl;
+      same = λ m w s. rw (js_expr-Call m a.0 (b.0 ∷ []) (enc w.datum), part.same m w s) (one_argument (oql m w p.0 s) (one_value m w.classes op) (call m a.0) (one_same m w.classes op a.0 a.1));
+    })
+layer (Oql-F.Binary at op p q) e h =
+    let a = there _ (called_two op) e h in
+    let b = there _ (lowered p.0) e a.2 in
+    let c = mapped _ (lowered q.0) e b.2 in
+    let left = p.1 b.0 b.1 in
+    let right = q.1 c.0 c.1 in
+    subst (IsSame (meaning_at (trees (Oql-F.Binary at op p q)))) c.2 (record {
+      arities = rw (has_arities-Call a.0 (b.0 ∷ c.0 ∷ []), left.arities, right.arities, arity_two op a.0 a.1) refl;
+      same = λ m w s. rw (js_expr-Call m a.0 (b.0 ∷ c.0 ∷ []) (enc w.datum), left.same m w s, right.same m w s) (two_same m op a.0 a.1 (oql m w p.0) (oql m w q.0) s);
+    })
+layer p e h = absurd (cc)
+
+-- ---- by induction
+
+of_oql : (x : Oql-F Oql Filter Key Named Order Select) → ((e : Expr) → lowered_at x ≡ Some e → IsSame (meaning_at x) e) → OfOql (roll-Oql x)
+of_oql x h e is =
+    let low : lowered (roll-Oql x) ≡ lowered_at x = fold-roll-Oql (Option Expr) (Unit {0}) (Unit {0}) (Unit {0}) (Unit {0}) (Unit {0}) lower_form (λ f. tt) (λ k. tt) (λ n. tt) (λ o. tt) (λ s. tt) x in
+    let r = h e (sym low ∙ is) in
+    record {
+      arities = r.arities;
+      same = λ m w s. rw (fold-roll-Oql Meaning Meaning KeyMeaning NamedMeaning (List KeyMeaning) Meaning (form m w) filter_form key_form named_form order_form select_form x) (r.same m w s);
+    }
+
+pub lowered_same : (x : Oql) → OfOql x
+lowered_same = ind-Oql OfOql Any Any Any Any Any (λ x p is. subst (λ z. OfOql (roll-Oql z)) is (of_oql (trees p) (layer p))) (λ x p is. tt) (λ x p is. tt) (λ x p is. tt) (λ x p is. tt) (λ x p is. tt)

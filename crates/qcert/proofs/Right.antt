@@ -1,68 +1,64 @@
 -- The layout of what a query becomes is right for the query.
-use Rattle.std.proofs.Common.{◌≡◌, inl, inr, ◌∙◌, ap, refl, List, [], ◌∷◌, ℕ, map, true}
-use Rattle.std.specs.List.{AllByRecursion}
+use Rattle.std.proofs.Common.{◌≡◌, ◌^◌, ◌-◌, inl, inr, ◌∙◌, ap, refl, List, [], ◌∷◌, ℕ, map, Some, pos, negsuc}
 use Rattle.qc_data.specs.declared.data.Datum.{Datum}
-use Rattle.qc_data.specs.declared.data.Datum.TheVariants as datum
 use Rattle.qc_data.specs.Encoding.{enc, encoded}
-use Rattle.qc_data.specs.Outcome.{bits64}
+use Rattle.qc_data.specs.Outcome.{Mode, bits64}
 use Rattle.qc_types.specs.Schemas.{SchemaOf}
-use Rattle.qc_oql.specs.declared.tree.Oql.{Oql}
-use Rattle.qc_oql.specs.Meaning.{oql}
-use Rattle.qc_oql.proofs.Meanings.{by_forms}
-use Rattle.qc_oql.proofs.Answered.{Answered, answered}
-use Rattle.qc_js.specs.declared.tree.Expr.TheVariants.{Array}
-use Rattle.qc_js.specs.declared.tree.Function.TheVariants as function
+use Rattle.qc_js.specs.declared.tree.Expr.{Expr}
 use Rattle.qc_js.specs.declared.tree.Js.{Js}
 use Rattle.qc_js.specs.Layout.{layout}
-use Rattle.qc_js.specs.Meaning.{js}
-use Rattle.qc_js.specs.Program.{IsProgram, has_arities, all_true}
+use Rattle.qc_js.specs.Meaning.{js, js_expr}
+use Rattle.qc_js.specs.Program.{IsProgram, has_arities}
 use Rattle.qc_js.specs.Spelling.{Spells}
-use Rattle.qc_js.proofs.Forms.{has_arities-Int, has_arities-Array, has_arities-Call}
-use Rattle.qcert.specs.Lowering.{lowered}
-use Rattle.qcert.specs.Right.{AnswersAs, IsRight}
-use Rattle.qcert.proofs.Forms.{lowered-Whole, lowered-Negative, lowered-Add, lowered-Sum}
-use Rattle.qcert.proofs.Lowered.{lowered_same}
+use Rattle.qc_oql.specs.declared.reading.TypedQuery.{TypedQuery}
+use Rattle.qc_oql_tree.specs.declared.tree.Named.{Named}
+use Rattle.qc_oql_tree.specs.declared.tree.Oql.{Oql}
+use Rattle.qc_oql_eval.specs.Meaning.{defined, named, oql, query}
+use Rattle.qc_oql_check.specs.Soundness.{IsSound}
+use Rattle.qcert.specs.Answer.{IsProgramOf}
+use Rattle.qcert.specs.Lowering.{lowered_body, lowered_query}
+use Rattle.qcert.specs.Right.{IsWorld, world_in, AnswersAs}
+use Rattle.qcert.proofs.Lowered.{IsSame, lowered_same}
 
--- ---- each call has as many arguments as its function takes
+-- a query that is compiled has no definitions
+body_same : (ds : List Named) (body : Oql) (e : Expr) → lowered_body ds body ≡ Some e → IsSame (λ m w s. defined (map (named m w) ds) (oql m w body) s) e
+body_same [] body e h = let r = lowered_same body e h in record { arities = r.arities; same = r.same }
+body_same (d ∷ ds) body e h = absurd (cc)
 
-abbrev HasArities : Oql → Type 0
-HasArities q = has_arities (lowered q) ≡ true
+module _ (schema : SchemaOf) (typed : TypedQuery) (e : Expr) (becomes : lowered_query typed.query ≡ Some e) where
+  compiled : IsSame (λ m w s. defined (map (named m w) typed.query.defines) (oql m w typed.query.body) s) e
+  compiled = body_same typed.query.defines typed.query.body e becomes
 
-members_have : (qs : List Oql) → AllByRecursion HasArities qs → all_true (map has_arities (map lowered qs)) ≡ true
-members_have [] h = refl
-members_have (q ∷ qs) h = rw (h.0, members_have qs h.1) refl
+  module _ (program : Js) (is : program.result ≡ e) where
+    is_program : IsProgram program
+    is_program = ap has_arities is ∙ compiled.arities
 
-lowered_has : (q : Oql) → HasArities q
-lowered_has = by_forms HasArities
-    (λ n. rw (lowered-Whole n) (has_arities-Int n))
-    (λ q h. rw (lowered-Negative q, has_arities-Call function.Negate (lowered q ∷ []), h) refl)
-    (λ p q h k. rw (lowered-Add p q, has_arities-Call function.Add (lowered p ∷ lowered q ∷ []), h, k) refl)
-    (λ qs h. rw (lowered-Sum qs, has_arities-Call function.Sum (Array (map lowered qs) ∷ []), has_arities-Array (map lowered qs), members_have qs h) refl)
+    same : (m : Mode) (world : Datum) → js m program (enc world) ≡ encoded (query m (world_in schema world) typed.query)
+    same m world = ap (λ x. js_expr m x (enc world)) is ∙ compiled.same m (world_in schema world) []
 
-is_program : (query : Oql) (program : Js) → program.result ≡ lowered query → IsProgram program
-is_program query program e = ap has_arities e ∙ lowered_has query
+    answers : IsSound schema typed.query typed.ty → (world : Datum) → IsWorld schema world → AnswersAs schema typed.query program world
+    answers sound world is_world =
+        let t = sound (world_in schema world) (record { classes = refl; globals = refl; datum = is_world }) in
+        record {
+          answer = t.0;
+          is_answer = t.2;
+          same = elim (t.3 (negsuc (2 ^ 63 - 1)) (pos (2 ^ 63 - 1))) [
+            | inl value ↦ inl (same bits64 world ∙ ap encoded value)
+            | inr range ↦ inr (record { leaves = range; throws = same bits64 world ∙ ap encoded range })
+          ];
+        }
 
--- ---- the answers
-
-answers_as : (query : Oql) (program : Js) (world : Datum) → program.result ≡ lowered query → Answered query world → AnswersAs query program world
-answers_as query program world e a =
-    let same : js bits64 program (enc world) ≡ encoded (oql bits64 query world) = rw e (lowered_same bits64 world query) in
-    record {
-      answer = datum.Int a.n;
-      is_answer = a.any;
-      same = elim a.bits [
-        | inl value ↦ inl (same ∙ ap encoded value)
-        | inr range ↦ inr (record { leaves = range; throws = same ∙ ap encoded range })
-      ];
+    -- what the emitter says of a program's text
+    pub right : IsSound schema typed.query typed.ty → (text : List ℕ) → text ≡ layout program → (IsProgram program → Spells text program)
+        → ((other : Js) → Spells text other → other ≡ program) → IsProgramOf schema typed text
+    right sound text laid spells only = record {
+      expression = e;
+      built = becomes;
+      right = record {
+        program = program;
+        is_layout = laid;
+        spells = spells is_program;
+        only = only;
+        each = answers sound;
+      };
     }
-
--- what the emitter says of a program's text
-pub right : (schema : SchemaOf) (query : Oql) (program : Js) (text : List ℕ) → program.result ≡ lowered query → text ≡ layout program → (IsProgram program → Spells text program)
-    → ((other : Js) → Spells text other → other ≡ program) → IsRight schema query text
-right schema query program text e laid spells only = record {
-  program = program;
-  is_layout = laid;
-  spells = spells (is_program query program e);
-  only = only;
-  each = λ world w. answers_as query program world e (answered query world);
-}

@@ -1,18 +1,25 @@
 -- How an answer reaches the outputs and the status.
 use Rattle.std.specs.Prelude.{◌≡◌, ◌⊎◌, ℕ, List, [], ◌∷◌, ◌++◌, Option, Result, Ok, Err, codes}
+use Rattle.std.specs.Fmt.{decimal}
 use Rattle.std.specs.Io.KnownBytes.{append_known}
 use Rattle.qc_io.specs.Device.{AppendsFront}
 use Rattle.qcert.specs.declared.refusal.File.{File}
 use Rattle.qcert.specs.declared.refusal.File.TheVariants.{Schema, Query, Input, Script}
 use Rattle.qcert.specs.declared.refusal.Refusal.{Refusal}
-use Rattle.qcert.specs.declared.refusal.Refusal.TheVariants.{Usage, ReadFault, TooLong, BadSchema, Unbuilt, WriteFault, Memory}
+use Rattle.qcert.specs.declared.refusal.Refusal.TheVariants.{Usage, ReadFault, TooLong, BadSchema, BadScan, TooManyTokens, BadSyntax, BadType, Unbuilt, BadInput, Range, WriteFault, Memory}
 
 abbrev pub status_of : Refusal → ℕ
 status_of Usage = 2
 status_of (ReadFault file) = 3
 status_of (TooLong file) = 1
 status_of BadSchema = 1
+status_of (BadScan file at) = 1
+status_of TooManyTokens = 1
+status_of (BadSyntax at) = 1
+status_of (BadType at) = 1
 status_of Unbuilt = 1
+status_of BadInput = 1
+status_of Range = 6
 status_of WriteFault = 4
 status_of Memory = 5
 
@@ -27,7 +34,13 @@ refusal_text Usage = codes "Usage"
 refusal_text (ReadFault file) = codes "ReadFault " ++ file_word file
 refusal_text (TooLong file) = codes "TooLong " ++ file_word file
 refusal_text BadSchema = codes "BadSchema"
+refusal_text (BadScan file at) = codes "BadScan at byte " ++ decimal at ++ codes " of " ++ file_word file
+refusal_text TooManyTokens = codes "TooManyTokens"
+refusal_text (BadSyntax at) = codes "BadSyntax at token " ++ decimal at
+refusal_text (BadType at) = codes "BadType at token " ++ decimal at
 refusal_text Unbuilt = codes "Unbuilt"
+refusal_text BadInput = codes "BadInput"
+refusal_text Range = codes "Range"
 refusal_text WriteFault = codes "WriteFault"
 refusal_text Memory = codes "Memory"
 
@@ -35,9 +48,13 @@ refusal_text Memory = codes "Memory"
 abbrev pub fault_line : Refusal → List ℕ
 fault_line refusal = codes "qcert: " ++ refusal_text refusal ++ 10 ∷ []
 
--- the fault line was added, or a front of it where the sink failed
+-- the bytes were added, or a front of them where the sink failed
+abbrev pub IsPut : Option (List ℕ) → Option (List ℕ) → Type 0 → List ℕ → Type 0
+IsPut old new failed bytes = (new ≡ append_known old bytes) ⊎ (failed × AppendsFront old new bytes)
+
+-- the fault line was put
 abbrev pub Complains : Option (List ℕ) → Option (List ℕ) → Type 0 → Refusal → Type 0
-Complains old new failed refusal = (new ≡ append_known old (fault_line refusal)) ⊎ (failed × AppendsFront old new (fault_line refusal))
+Complains old new failed refusal = IsPut old new failed (fault_line refusal)
 
 -- the text was put whole
 pub record IsWhole (out_old out_new err_old err_new : Option (List ℕ)) (status : ℕ) (text : List ℕ) : Type 0 where

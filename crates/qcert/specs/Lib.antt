@@ -1,7 +1,10 @@
 pub mod Answer
+pub mod Causes
 pub mod Delivery
+pub mod Files
 pub mod Job
 pub mod Lowering
+pub mod Pieces
 pub mod Ran
 pub mod Right
 pub mod Stages

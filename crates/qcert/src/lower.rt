@@ -1,58 +1,118 @@
 // From a query's tree to the tree of its program.
-ghost use Rattle.std.specs.Prelude.{◌≡◌, [], ◌∷◌, IfOk, map};
-ghost use Rattle.qcert.specs.Lowering.{lowered};
+ghost use Rattle.std.specs.Prelude.{◌≡◌, IfOk, map, option_map};
+ghost use Rattle.qc_js.specs.declared.tree.Expr.TheVariants.{Array};
+ghost use Rattle.qcert.specs.Lowering.{all_there, called_one, called_two, call_one, call_two, lowered, lowered_query};
 
 use qc_data::{List, Memory};
 use qc_js::{Expr, Function};
-use qc_oql::Oql;
+use qc_oql_tree::{Binary, Oql, Query, Unary};
 use std::alloc::Global;
 
-/// The expression that answers as the query does.
+/// The expression that answers as the query does, if the query is compiled.
+pub fn lower_query(alloc: Global, query: &Query) -> Result<Option<Expr>, Memory>
+    ensures { IfOk result (λ expression. expression ≡ lowered_query query.now) }
+{
+    if query.defines.len() > 0 {
+        return Ok(None);
+    }
+    lower(alloc, &query.body)
+}
+
 #[cycle(lower)]
-pub fn lower(alloc: Global, query: &Oql) -> Result<Expr, Memory>
+fn lower(alloc: Global, query: &Oql) -> Result<Option<Expr>, Memory>
     ensures { IfOk result (λ expression. expression ≡ lowered query.now) }
 {
     match query {
-        Oql::Whole(n) => Ok(Expr::Int(*n)),
-        Oql::Negative(inner) => {
-            let inner = lower(alloc, inner.get())?;
-            Ok(Expr::Call(Function::Negate, one(alloc, inner)?))
+        Oql::Whole(_, n) => Ok(Some(Expr::Int(*n))),
+        Oql::Bag(_, members) => lower_bag(alloc, members.as_slice()),
+        Oql::Unary(_, op, inner) => {
+            let argument = lower(alloc, inner.get())?;
+            call_one(alloc, called_one(*op), argument)
         }
-        Oql::Add(left, right) => {
-            let left = lower(alloc, left.get())?;
-            let right = lower(alloc, right.get())?;
-            Ok(Expr::Call(Function::Add, two(alloc, left, right)?))
+        Oql::Binary(_, op, left, right) => {
+            let first = lower(alloc, left.get())?;
+            let second = lower(alloc, right.get())?;
+            call_two(alloc, called_two(*op), first, second)
         }
-        Oql::Sum(members) => {
-            let members = Expr::Array(lower_all(alloc, members.as_slice())?);
-            Ok(Expr::Call(Function::Sum, one(alloc, members)?))
-        }
+        _ => Ok(None),
     }
 }
 
+// The function of the runtime that an operator is, if there is one yet.
+fn called_one(op: Unary) -> Option<Function>
+    ensures { result ≡ called_one op }
+{
+    match op {
+        Unary::Neg => Some(Function::Negate),
+        Unary::Sum => Some(Function::Sum),
+        _ => None,
+    }
+}
+
+// The same of operators of two operands.
+fn called_two(op: Binary) -> Option<Function>
+    ensures { result ≡ called_two op }
+{
+    match op {
+        Binary::Add => Some(Function::Add),
+        _ => None,
+    }
+}
+
+// The array of the members.
 #[cycle(lower)]
-fn lower_all(alloc: Global, queries: &[Oql]) -> Result<List<Expr>, Memory>
-    ensures { IfOk result (λ expressions. expressions ≡ map lowered queries.now) }
+fn lower_bag(alloc: Global, queries: &[Oql]) -> Result<Option<Expr>, Memory>
+    ensures { IfOk result (λ expression. expression ≡ option_map Array (all_there (map lowered queries.now))) }
 {
     let mut all = List::new(alloc);
     for query in queries {
-        all.add(lower(alloc, query)?)?;
+        let Some(expression) = lower(alloc, query)? else {
+            return Ok(None);
+        };
+        all.add(expression)?;
     }
-    Ok(all)
+    Ok(Some(Expr::Array(all)))
 }
 
-fn one(alloc: Global, expression: Expr) -> Result<List<Expr>, Memory>
-    ensures { IfOk result (λ list. list ≡ expression ∷ []) }
+// The call of one argument, where the function and the argument are there.
+fn call_one(
+    alloc: Global,
+    function: Option<Function>,
+    argument: Option<Expr>,
+) -> Result<Option<Expr>, Memory>
+    ensures { IfOk result (λ expression. expression ≡ call_one function argument) }
 {
-    let mut list = List::new(alloc);
-    list.add(expression)?;
-    Ok(list)
+    let Some(function) = function else {
+        return Ok(None);
+    };
+    let Some(argument) = argument else {
+        return Ok(None);
+    };
+    let mut arguments = List::new(alloc);
+    arguments.add(argument)?;
+    Ok(Some(Expr::Call(function, arguments)))
 }
 
-fn two(alloc: Global, left: Expr, right: Expr) -> Result<List<Expr>, Memory>
-    ensures { IfOk result (λ list. list ≡ left ∷ right ∷ []) }
+// The call of two arguments.
+fn call_two(
+    alloc: Global,
+    function: Option<Function>,
+    first: Option<Expr>,
+    second: Option<Expr>,
+) -> Result<Option<Expr>, Memory>
+    ensures { IfOk result (λ expression. expression ≡ call_two function first second) }
 {
-    let mut list = one(alloc, left)?;
-    list.add(right)?;
-    Ok(list)
+    let Some(function) = function else {
+        return Ok(None);
+    };
+    let Some(first) = first else {
+        return Ok(None);
+    };
+    let Some(second) = second else {
+        return Ok(None);
+    };
+    let mut arguments = List::new(alloc);
+    arguments.add(first)?;
+    arguments.add(second)?;
+    Ok(Some(Expr::Call(function, arguments)))
 }

@@ -1,12 +1,14 @@
 //! The query compiler: from the words of a command line and the bytes of a query to the bytes of a JavaScript program.
 #![tactic(auto)]
 
+mod actions;
 mod answer;
 mod job;
 mod lower;
 mod refusal;
 mod run;
 mod stages;
+mod telling;
 #[cfg(test)]
 mod tests;
 

@@ -1,5 +1,7 @@
 // Why a call has no answer, and how that is told.
 use qc_data::Memory;
+use qc_oql::QueryFault;
+use qc_schema::{InputFault, SchemaFault};
 
 /// A file of a job.
 #[derive(Clone, Copy, Debug, PartialEq, Eq)]
@@ -21,8 +23,20 @@ pub enum Refusal {
     TooLong(File),
     /// The file has no schema.
     BadSchema,
+    /// At this byte of the file no blank, comment or token begins.
+    BadScan(File, u32),
+    /// The query has too many tokens.
+    TooManyTokens,
+    /// From this token on the tokens begin no query.
+    BadSyntax(u32),
+    /// The query has no type, which shows first at this token.
+    BadType(u32),
     /// The query is of a form that is not compiled yet.
     Unbuilt,
+    /// The file has no input of the schema.
+    BadInput,
+    /// An integer of the answer leaves 64 bits.
+    Range,
     /// The output took only a front of the answer.
     WriteFault,
     /// Memory was wanting.
@@ -40,9 +54,54 @@ impl From<Memory> for Refusal {
     }
 }
 
+impl From<SchemaFault> for Refusal {
+    ghost use Rattle.std.specs.Prelude.{◌≡◌};
+    ghost use Rattle.qcert.specs.Causes.{of_schema};
+
+    ghost from_gives = { λ fault made. made ≡ of_schema fault };
+
+    fn from(fault: SchemaFault) -> Refusal {
+        match fault {
+            SchemaFault::BadSchema => Refusal::BadSchema,
+            SchemaFault::Memory => Refusal::Memory,
+        }
+    }
+}
+
+impl From<QueryFault> for Refusal {
+    ghost use Rattle.std.specs.Prelude.{◌≡◌};
+    ghost use Rattle.qcert.specs.Causes.{of_query};
+
+    ghost from_gives = { λ fault made. made ≡ of_query fault };
+
+    fn from(fault: QueryFault) -> Refusal {
+        match fault {
+            QueryFault::BadScan { at } => Refusal::BadScan(File::Query, at),
+            QueryFault::TooManyTokens => Refusal::TooManyTokens,
+            QueryFault::BadSyntax { at } => Refusal::BadSyntax(at),
+            QueryFault::BadType { at } => Refusal::BadType(at),
+            QueryFault::Memory => Refusal::Memory,
+        }
+    }
+}
+
+impl From<InputFault> for Refusal {
+    ghost use Rattle.std.specs.Prelude.{◌≡◌};
+    ghost use Rattle.qcert.specs.Causes.{of_input};
+
+    ghost from_gives = { λ fault made. made ≡ of_input fault };
+
+    fn from(fault: InputFault) -> Refusal {
+        match fault {
+            InputFault::BadInput => Refusal::BadInput,
+            InputFault::Memory => Refusal::Memory,
+        }
+    }
+}
+
 impl Refusal {
     ghost use Rattle.std.specs.Prelude.{◌≡◌};
-    ghost use Rattle.qcert.specs.Delivery.{status_of, fault_line};
+    ghost use Rattle.qcert.specs.Delivery.{status_of};
 
     /// The exit status.
     pub fn status(self) -> u8
@@ -51,30 +110,17 @@ impl Refusal {
         match self {
             Refusal::Usage => 2,
             Refusal::ReadFault(_) => 3,
-            Refusal::TooLong(_) | Refusal::BadSchema | Refusal::Unbuilt => 1,
+            Refusal::TooLong(_)
+            | Refusal::BadSchema
+            | Refusal::BadScan(_, _)
+            | Refusal::TooManyTokens
+            | Refusal::BadSyntax(_)
+            | Refusal::BadType(_)
+            | Refusal::Unbuilt
+            | Refusal::BadInput => 1,
+            Refusal::Range => 6,
             Refusal::WriteFault => 4,
             Refusal::Memory => 5,
-        }
-    }
-
-    /// The line that tells of it.
-    pub fn line(self) -> &'static str
-        ensures { result.now ≡ fault_line self }
-    {
-        match self {
-            Refusal::Usage => "qcert: Usage\n",
-            Refusal::ReadFault(File::Schema) => "qcert: ReadFault schema\n",
-            Refusal::ReadFault(File::Query) => "qcert: ReadFault query\n",
-            Refusal::ReadFault(File::Input) => "qcert: ReadFault input\n",
-            Refusal::ReadFault(File::Script) => "qcert: ReadFault script\n",
-            Refusal::TooLong(File::Schema) => "qcert: TooLong schema\n",
-            Refusal::TooLong(File::Query) => "qcert: TooLong query\n",
-            Refusal::TooLong(File::Input) => "qcert: TooLong input\n",
-            Refusal::TooLong(File::Script) => "qcert: TooLong script\n",
-            Refusal::BadSchema => "qcert: BadSchema\n",
-            Refusal::Unbuilt => "qcert: Unbuilt\n",
-            Refusal::WriteFault => "qcert: WriteFault\n",
-            Refusal::Memory => "qcert: Memory\n",
         }
     }
 }

@@ -1,6 +1,6 @@
-use Rattle.std.proofs.Common.{◌≡◌, take, map}
-use Rattle.qcert.specs.Lowering.{lowered}
+use Rattle.std.proofs.Common.{◌≡◌, Some, take, map}
+use Rattle.qcert.specs.Lowering.{all_there, lowered}
 use Rattle.qcert.proofs.lower.+lower.Given as goal
 
-abbrev pub invariant-lower_all-loop-query : goal.invariant-lower_all-loop-query
-invariant-lower_all-loop-query l = l.all ≡ map lowered (take l.query-index l.queries)
+abbrev pub invariant-lower_bag-loop-query : goal.invariant-lower_bag-loop-query
+invariant-lower_bag-loop-query l = all_there (map lowered (take l.query-index l.queries)) ≡ Some l.all

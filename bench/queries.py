@@ -1,0 +1,82 @@
+#!/usr/bin/env python3
+"""Times `check` of queries of about 1,000 tokens, and `run` over 100,000 rows and over 1,000 times 1,000 rows.
+
+It lies outside the gate: run it by hand after `rt ci`. It runs `bin/qcert`, which is built first where it is stale, on files in a
+folder for temporary files. A machine that does other work makes the times longer.
+"""
+import os
+import pathlib
+import resource
+import subprocess
+import sys
+import tempfile
+import time
+
+TOP = pathlib.Path(__file__).resolve().parent.parent
+EMPLOYEES = '{"version":1,"classes":[],"globals":{"emp":{"bag":{"record":{"age":"int","dept":"text","name":"text"}}}}}'
+PAIRS = '{"version":1,"classes":[],"globals":{"a":{"bag":{"record":{"k":"int","v":"int"}}},"b":{"bag":{"record":{"k":"int","w":"int"}}}}}'
+
+
+def nested_selects(depth):
+    """A select in the source of a select, and so on."""
+    return "select x from x in (" * depth + "bag(1)" + ")" * depth
+
+
+CHECKS = [
+    ("brackets, 499 deep", "(" * 499 + "1" + ")" * 499),
+    ("negations, 999 deep", "-" * 999 + "1"),
+    ("a sum of 500", " + ".join(["1"] * 500)),
+    ("141 nested selects", nested_selects(141)),
+    ("a struct of 249 fields", "struct(" + ", ".join("f%d: %d" % (i, i) for i in range(249)) + ")"),
+    ("a bag of 498", "bag(" + ", ".join(str(i) for i in range(498)) + ")"),
+    ("a select of 165 sources", "select 1 from " + ", ".join("x%d in bag()" % i for i in range(165))),
+    ("124 definitions", "".join("define d%d as %s; " % (i, "1" if i == 0 else "d%d + 1" % (i - 1)) for i in range(124)) + "d123"),
+]
+
+
+def employees(count):
+    return '{"emp":[' + ",".join('{"name":"Employee %d","age":%d,"dept":"d%d"}' % (i, (i * 7919) % 90, i % 7) for i in range(count)) + "]}"
+
+
+def pairs(count):
+    rows = lambda name: ",".join('{"k":%d,"%s":%d}' % ((i * 31) % count, name, i) for i in range(count))
+    return '{"a":[%s],"b":[%s]}' % (rows("v"), rows("w"))
+
+
+RUNS = [
+    ("filter and sort of 100,000 rows", "select x.name from x in emp where x.age > 30 order by x.age desc, x.name", EMPLOYEES, employees(100000)),
+    ("join of 1,000 and 1,000 rows", "select struct(v: x.v, w: y.w) from x in a, y in b where x.k = y.k", PAIRS, pairs(1000)),
+    ("join by a nested select", "select struct(v: x.v, ws: (select y.w from y in b where y.k = x.k)) from x in a", PAIRS, pairs(1000)),
+]
+
+
+def measure(words, folder):
+    """Seconds and most bytes of memory of a call, which is to end with status 0."""
+    started = time.monotonic()
+    process = subprocess.Popen([str(TOP / "bin" / "qcert")] + words, cwd=folder, stdout=subprocess.DEVNULL)
+    _, status, usage = os.wait4(process.pid, 0)
+    if status != 0:
+        sys.exit("bench: status %d of %s" % (status, " ".join(words)))
+    return time.monotonic() - started, usage.ru_maxrss * 1024
+
+
+def main():
+    resource.setrlimit(resource.RLIMIT_STACK, (resource.RLIM_INFINITY, resource.RLIM_INFINITY))
+    with tempfile.TemporaryDirectory() as name:
+        folder = pathlib.Path(name)
+        (folder / "q").write_text("1")
+        measure("check --source oql --query q".split(), folder)
+        for title, query in CHECKS:
+            (folder / "q").write_text(query)
+            seconds, most = measure("check --source oql --query q".split(), folder)
+            print("check, %s: %.3f s, %.0f MiB" % (title, seconds, most / 2**20))
+        for title, query, schema, text in RUNS:
+            (folder / "q").write_text(query)
+            (folder / "s").write_text(schema)
+            (folder / "i").write_text(text)
+            seconds, most = measure("run --source oql --query q --schema s --input i".split(), folder)
+            print("run, %s: %.2f s, %.0f MiB, of an input of %.1f MiB" % (title, seconds, most / 2**20, len(text) / 2**20))
+
+
+if __name__ == "__main__":
+    main()

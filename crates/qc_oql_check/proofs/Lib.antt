@@ -1,0 +1,13 @@
+pub mod Answered
+pub mod Arms
+pub mod Binding
+pub mod Checked
+pub mod Forms
+pub mod FormsSound
+pub mod Layers
+pub mod Lookups
+pub mod Scopes
+pub mod SelectSound
+pub mod Sound
+pub mod StructSound
+pub mod Traversals

@@ -1,0 +1,7 @@
+use Rattle.std.proofs.Common.{◌≡◌, drop}
+use Rattle.qc_oql_eval.specs.Rows.{keyed_rows}
+use Rattle.qc_oql_eval.specs.Selecting.{are_sortable, directions}
+use Rattle.qc_oql_eval.proofs.ordering.are_sortable.Given as goal
+
+abbrev pub invariant-loop-at : goal.invariant-loop-at
+invariant-loop-at l = are_sortable 0 (directions l.keys) (keyed_rows l.rows) ≡ are_sortable l.at (directions (drop l.at l.keys)) (keyed_rows l.rows)

@@ -1,0 +1,6 @@
+use Rattle.std.proofs.Common.{◌≡◌, drop}
+use Rattle.qc_oql_eval.specs.Selecting.{directions, keys_cmp}
+use Rattle.qc_oql_eval.proofs.ordering.keys_cmp.Given as goal
+
+abbrev pub invariant-loop-at : goal.invariant-loop-at
+invariant-loop-at l = keys_cmp 0 (directions l.keys) l.first l.second ≡ keys_cmp l.at (directions (drop l.at l.keys)) l.first l.second

@@ -1,0 +1,6 @@
+use Rattle.std.proofs.Common.{◌≡◌, ◌++◌, take}
+use Rattle.qc_oql_eval.specs.Selecting.{rows_with}
+use Rattle.qc_oql_eval.proofs.rows.spread.Given as goal
+
+abbrev pub invariant-loop-member : goal.invariant-loop-member
+invariant-loop-member l = l.rows ≡ l.initial.rows ++ rows_with l.name l.row (take l.member-index l.members)

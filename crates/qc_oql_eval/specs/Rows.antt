@@ -1,0 +1,30 @@
+-- Rows behind references, as private functions answer them.
+use Rattle.std.specs.Prelude.{◌≡◌, ◌≢◌, List, [], ◌∷◌, map, Option, Some, None, Result, Ok, Err, Vec}
+use Rattle.std.specs.Borrow.{Bor}
+use Rattle.std.specs.declared.alloc.Global.{Global}
+use Rattle.qc_data.specs.Outcome.{Outcome, Value, Halts, why_of}
+use Rattle.qc_data.specs.declared.halt.Halt.{Halt}
+use Rattle.qc_data.specs.declared.halt.Halt.TheVariants as halt
+use Rattle.qc_oql_eval.specs.Bindings.{Bindings}
+use Rattle.qc_oql_eval.specs.Selecting.{KeyedRow}
+use Rattle.qc_oql_eval.specs.declared.ordering.Keyed.{Keyed}
+
+-- the rows with the values of their keys
+abbrev pub keyed_rows : List Keyed → List KeyedRow
+keyed_rows rows = map (λ row. (row.keys, row.row.now)) rows
+
+-- the code's answer of such rows is the outcome, unless memory was wanting
+abbrev pub GivesKeyed : Outcome (List KeyedRow) → Result (Vec Keyed Global) Halt → Type 0
+GivesKeyed o (Ok v) = o ≡ Value (keyed_rows v.items)
+GivesKeyed o (Err e) = e ≢ halt.Memory → o ≡ Halts (why_of e)
+
+-- the same for one row
+abbrev pub GivesOneKeyed : Outcome KeyedRow → Result Keyed Halt → Type 0
+GivesOneKeyed o (Ok v) = o ≡ Value (v.keys, v.row.now)
+GivesOneKeyed o (Err e) = e ≢ halt.Memory → o ≡ Halts (why_of e)
+
+-- the row alone, or none
+abbrev pub GivesKept : Outcome (List Bindings) → Result (Option (Bor Bindings)) Halt → Type 0
+GivesKept o (Ok None) = o ≡ Value []
+GivesKept o (Ok (Some row)) = o ≡ Value (row.now ∷ [])
+GivesKept o (Err e) = e ≢ halt.Memory → o ≡ Halts (why_of e)

@@ -1,0 +1,110 @@
+-- The select: in whole lists, from its rows to its values.
+use Rattle.std.specs.Prelude.{ℕ, suc, Bool, true, false, cond, ◌&&◌, List, [], ◌∷◌, ◌++◌, map, Option, Some, None, slice_get, unwrap_or}
+use Rattle.std.specs.Ordering.{ordering_then}
+use Rattle.std.specs.declared.cmp.Ordering.{Ordering}
+use Rattle.std.specs.declared.cmp.Ordering.TheVariants.{Equal}
+use Rattle.qc_data.specs.Kinds.{as_coll}
+use Rattle.qc_data.specs.Order.{sort_by}
+use Rattle.qc_data.specs.Outcome.{Outcome, Value, and_then, gather, each}
+use Rattle.qc_data.specs.declared.data.Datum.{Datum}
+use Rattle.qc_data.specs.declared.data.Datum.TheVariants.{Unit as Nothing, Coll}
+use Rattle.qc_ops.specs.Bags.{firsts}
+use Rattle.qc_ops.specs.Operands.{only_if}
+use Rattle.qc_ops.specs.Sorting.{one_kind, directed}
+use Rattle.qc_oql_tree.specs.declared.tree.Key.{Key}
+use Rattle.qc_oql_tree.specs.declared.tree.Oql.TheViews.{out-Key}
+use Rattle.qc_oql_tree.specs.declared.tree.Direction.{Direction}
+use Rattle.qc_oql_tree.specs.declared.tree.Direction.TheVariants.{Asc, Desc}
+use Rattle.qc_oql_eval.specs.Bindings.{Bindings, Meaning}
+use Rattle.qc_oql_eval.specs.Forms.{NamedMeaning, truth}
+
+-- a key with its direction
+abbrev pub KeyMeaning : Type 0
+KeyMeaning = Meaning × Direction
+
+-- a row, which binds the names of the sources, with the values of its keys
+abbrev pub KeyedRow : Type 0
+KeyedRow = List Datum × Bindings
+
+-- the members of a source behind a row
+unfoldable pub source_items : NamedMeaning → Bindings → Bindings → Outcome (List Datum)
+source_items source s row = and_then (source.1 (row ++ s)) as_coll
+
+-- the row with the name bound to each member
+unfoldable pub rows_with : List ℕ → Bindings → List Datum → List Bindings
+rows_with name row xs = map (λ x. (name, x) ∷ row) xs
+
+-- the row with the source's name bound to each of its members
+abbrev pub extended : NamedMeaning → Bindings → Bindings → Outcome (List Bindings)
+extended source s row = and_then (source_items source s row) (λ xs. Value (rows_with source.0 row xs))
+
+-- the rows extended by each source in turn
+abbrev pub rows_from : List NamedMeaning → Bindings → List Bindings → Outcome (List Bindings)
+rows_from [] s rows = Value rows
+rows_from (source ∷ sources) s rows = and_then (gather (extended source s) rows) (rows_from sources s)
+
+-- all rows, the first source outermost
+abbrev pub rows_of : List NamedMeaning → Bindings → Outcome (List Bindings)
+rows_of sources s = rows_from sources s ([] ∷ [])
+
+-- the row alone where the condition is true
+unfoldable pub kept_row : Meaning → Bindings → Bindings → Outcome (List Bindings)
+kept_row test s row = and_then (truth test (row ++ s)) (λ holds. Value (cond holds (row ∷ []) []))
+
+-- where
+abbrev pub filtered : Option Meaning → Bindings → List Bindings → Outcome (List Bindings)
+filtered None s rows = Value rows
+filtered (Some test) s rows = gather (kept_row test s) rows
+
+-- the values of the keys
+unfoldable pub key_values : List KeyMeaning → Bindings → Outcome (List Datum)
+key_values keys s = each (λ key. key.0 s) keys
+
+-- the row with the values of the keys
+unfoldable pub keyed : List KeyMeaning → Bindings → Bindings → Outcome KeyedRow
+keyed keys s row = and_then (key_values keys (row ++ s)) (λ ds. Value (ds, row))
+
+-- the value of the key at a place
+abbrev pub value_at : ℕ → List Datum → Datum
+value_at i ds = unwrap_or (slice_get ds i) Nothing
+
+-- from place i on, each key's values are of one kind
+abbrev pub are_sortable : ℕ → List Direction → List KeyedRow → Bool
+are_sortable i [] rows = true
+are_sortable i (d ∷ ds) rows = one_kind (map (λ row. value_at i row.0) rows) && are_sortable (suc i) ds rows
+
+-- the direction is ascending
+abbrev pub is_ascending : Direction → Bool
+is_ascending Asc = true
+is_ascending Desc = false
+
+-- how values of keys compare, by those from place i on in turn
+abbrev pub keys_cmp : ℕ → List Direction → List Datum → List Datum → Ordering
+keys_cmp i [] xs ys = Equal
+keys_cmp i (d ∷ ds) xs ys = ordering_then (directed (is_ascending d) (value_at i xs) (value_at i ys)) (keys_cmp (suc i) ds xs ys)
+
+-- rows in the order of their keys; those that tie keep theirs
+abbrev pub sorted : List Direction → List KeyedRow → List KeyedRow
+sorted directions rows = sort_by (λ a b. keys_cmp 0 directions a.0 b.0) rows
+
+-- order by: each key's values are all integers, all texts or all truth values
+unfoldable pub ordered_by : List KeyMeaning → Bindings → List Bindings → Outcome (List Bindings)
+ordered_by keys s rows =
+    and_then (each (keyed keys s) rows) (λ ks. only_if (are_sortable 0 (map (λ key. key.1) keys) ks) (Value (map (λ row. row.1) (sorted (map (λ key. key.1) keys) ks))))
+
+abbrev pub ordered : Option (List KeyMeaning) → Bindings → List Bindings → Outcome (List Bindings)
+ordered None s rows = Value rows
+ordered (Some keys) s rows = ordered_by keys s rows
+
+-- distinct: the first occurrences
+abbrev pub distinct_if : Bool → List Datum → List Datum
+distinct_if distinct xs = cond distinct (firsts xs) xs
+
+-- a select: its rows, those that the condition keeps, in order, and the value of each
+abbrev pub selected : Bool → Meaning → List NamedMeaning → Option Meaning → Option (List KeyMeaning) → Meaning
+selected distinct value sources filter order s =
+    and_then (rows_of sources s) (λ rows. and_then (filtered filter s rows) (λ kept. and_then (ordered order s kept) (λ sorted. and_then (each (λ row. value (row ++ s)) sorted) (λ values. Value (Coll (distinct_if distinct values))))))
+
+-- the directions of keys
+abbrev pub directions : List Key → List Direction
+directions keys = map (λ key. (out-Key key).direction) keys

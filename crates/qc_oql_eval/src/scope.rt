@@ -1,0 +1,86 @@
+// Scopes: what names stand for.
+ghost use Rattle.std.specs.Option.{option_copied};
+ghost use Rattle.std.specs.Prelude.{◌≡◌};
+ghost use Rattle.qc_data.specs.Outcome.{Gives};
+ghost use Rattle.qc_data.specs.Pairs.{lookup};
+ghost use Rattle.qc_ops.specs.Operands.{found};
+ghost use Rattle.qc_oql_eval.specs.Bindings.{bindings_of, value_of};
+
+use qc_data::{Chars, Datum, Halt, List, copy};
+use qc_types::World;
+use std::alloc::Global;
+
+// The bindings that a row of a select makes, the newest first.
+pub(crate) type Row = List<(Chars, Datum)>;
+
+// The rows of a select.
+pub(crate) type Rows = List<Row>;
+
+// Bindings, and those of the scope around them.
+#[derive(Drop)]
+pub(crate) enum Scope<'a> {
+    // No binding.
+    Empty,
+    // A name and its value.
+    Bind(&'a Chars, &'a Datum, &'a Scope<'a>),
+    // A row.
+    Row(&'a [(Chars, Datum)], &'a Scope<'a>),
+}
+
+// What a name stands for: its newest binding, or else its global.
+pub(crate) fn found<'a>(world: &'a World, scope: &'a Scope<'a>, name: &Chars) -> Option<&'a Datum>
+    ensures { value_of world.now name.now (bindings_of scope.now) ≡ found (option_copied result) }
+{
+    match binding(scope, name) {
+        Some(value) => Some(value),
+        None => world.get(name.as_str()),
+    }
+}
+
+// A copy of what a name stands for.
+pub(crate) fn value_of(
+    alloc: Global,
+    world: &World,
+    scope: &Scope,
+    name: &Chars,
+) -> Result<Datum, Halt>
+    ensures { Gives (value_of world.now name.now (bindings_of scope.now)) result }
+{
+    match found(world, scope, name) {
+        Some(value) => Ok(copy(alloc, value)?),
+        None => Err(Halt::Stuck),
+    }
+}
+
+// The newest binding of a name.
+#[tactic(auto, using(crate::proofs::Lookups::lookup_append))]
+fn binding<'a>(scope: &'a Scope<'a>, name: &Chars) -> Option<&'a Datum>
+    ensures { option_copied result ≡ lookup name.now (bindings_of scope.now) }
+{
+    match scope {
+        Scope::Empty => None,
+        Scope::Bind(bound, value, outer) => {
+            if bound.as_str() == name.as_str() {
+                Some(value)
+            } else {
+                binding(outer, name)
+            }
+        }
+        Scope::Row(row, outer) => match in_row(row, name) {
+            Some(value) => Some(value),
+            None => binding(outer, name),
+        },
+    }
+}
+
+// The newest binding of a name in a row.
+fn in_row<'a>(row: &'a [(Chars, Datum)], name: &Chars) -> Option<&'a Datum>
+    ensures { option_copied result ≡ lookup name.now row.now }
+{
+    for bound in row {
+        if bound.0.as_str() == name.as_str() {
+            return Some(&bound.1);
+        }
+    }
+    None
+}

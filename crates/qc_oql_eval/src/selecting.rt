@@ -1,0 +1,292 @@
+// The outcome of selects in 64 bits: rows, those that are kept, their order, and their values.
+ghost use Rattle.std.specs.Prelude.{◌++◌, map, option_map};
+ghost use Rattle.qc_data.specs.Outcome.{bits64, each, gather, Gives};
+ghost use Rattle.qc_ops.specs.Columns.{behind, GivesRefs};
+ghost use Rattle.qc_oql_tree.specs.declared.tree.Oql.TheViews.{out-Select};
+ghost use Rattle.qc_oql_eval.specs.Bindings.{bindings_of};
+ghost use Rattle.qc_oql_eval.specs.Meaning as meaning;
+ghost use Rattle.qc_oql_eval.specs.Rows.{GivesKept, GivesKeyed, GivesOneKeyed};
+ghost use Rattle.qc_oql_eval.specs.Selecting as selecting;
+
+use crate::expression::{outcome, truth};
+use crate::operators::distinct_if;
+use crate::ordering::{Keyed, in_order};
+use crate::rows::{all_rows, only_row, spread};
+use crate::scope::{Row, Rows, Scope};
+use qc_data::{Datum, Halt, Items};
+use qc_oql_tree::{Filter, Key, Named, Oql, Order, Select};
+use qc_types::World;
+use std::alloc::Global;
+
+// The values of a select: of its rows, those that the condition keeps, in order.
+#[cycle(eval)]
+pub(crate) fn selected(
+    alloc: Global,
+    world: &World,
+    scope: &Scope,
+    select: &Select,
+) -> Result<Datum, Halt>
+    ensures { Gives (selecting.selected (out-Select select.now).distinct (meaning.oql bits64 world.now (out-Select select.now).value) (map (meaning.named bits64 world.now) (out-Select select.now).sources) (option_map (meaning.filter bits64 world.now) (out-Select select.now).filter) (option_map (meaning.order bits64 world.now) (out-Select select.now).order) (bindings_of scope.now)) result }
+{
+    let rows = rows_of(alloc, world, scope, select.sources.as_slice())?;
+    let kept = filtered(alloc, world, scope, &select.filter, rows.as_slice())?;
+    let sorted = ordered(alloc, world, scope, &select.order, kept)?;
+    let values = values_of(alloc, world, scope, &select.value, sorted.as_slice())?;
+    distinct_if(alloc, world.classes(), select.distinct, values)
+}
+
+// All rows of the sources, the first source outermost.
+#[cycle(eval)]
+fn rows_of(alloc: Global, world: &World, scope: &Scope, sources: &[Named]) -> Result<Rows, Halt>
+    ensures { Gives (selecting.rows_of (map (meaning.named bits64 world.now) sources.now) (bindings_of scope.now)) result }
+{
+    let mut rows = only_row(alloc)?;
+    for source in sources {
+        rows = extended(alloc, world, scope, source, rows.as_slice())?;
+    }
+    Ok(rows)
+}
+
+// The rows with a source's name bound to each of its members.
+#[cycle(eval)]
+#[tactic(auto, using(qc_data::proofs::Outcomes::gather_is, crate::proofs::Forms::named_name))]
+fn extended(
+    alloc: Global,
+    world: &World,
+    scope: &Scope,
+    source: &Named,
+    rows: &[Row],
+) -> Result<Rows, Halt>
+    ensures { Gives (gather (selecting.extended (meaning.named bits64 world.now source.now) (bindings_of scope.now)) rows.now) result }
+{
+    let mut all = Rows::new(alloc);
+    for row in rows {
+        let items = source_items(alloc, world, scope, source, row)?;
+        spread(
+            alloc,
+            &mut all,
+            &source.name,
+            items.as_slice(),
+            row.as_slice(),
+        )?;
+    }
+    Ok(all)
+}
+
+// The members of a source behind a row.
+#[cycle(eval)]
+#[tactic(auto, unfolding(crate::specs::Selecting::source_items))]
+fn source_items(
+    alloc: Global,
+    world: &World,
+    scope: &Scope,
+    source: &Named,
+    row: &Row,
+) -> Result<Items, Halt>
+    ensures { Gives (selecting.source_items (meaning.named bits64 world.now source.now) (bindings_of scope.now) row.now) result }
+{
+    match source_value(alloc, world, scope, source, row)? {
+        Datum::Coll(items) => Ok(items),
+        _ => Err(Halt::Stuck),
+    }
+}
+
+// The value of a source behind a row.
+#[cycle(eval)]
+#[tactic(auto, using(crate::proofs::Forms::named_is))]
+fn source_value(
+    alloc: Global,
+    world: &World,
+    scope: &Scope,
+    source: &Named,
+    row: &Row,
+) -> Result<Datum, Halt>
+    ensures { Gives ((meaning.named bits64 world.now source.now).1 (row.now ++ bindings_of scope.now)) result }
+{
+    outcome(
+        alloc,
+        world,
+        &Scope::Row(row.as_slice(), &*scope),
+        &source.of,
+    )
+}
+
+// The rows that the condition keeps, if there is one.
+#[cycle(eval)]
+#[tactic(auto, using(crate::proofs::Forms::filter_is))]
+fn filtered<'a>(
+    alloc: Global,
+    world: &World,
+    scope: &Scope,
+    filter: &Option<Filter>,
+    rows: &'a [Row],
+) -> Result<Vec<&'a Row>, Halt>
+    ensures { GivesRefs (selecting.filtered (option_map (meaning.filter bits64 world.now) filter.now) (bindings_of scope.now) rows.now) result }
+{
+    match filter {
+        None => Ok(all_rows(alloc, rows)?),
+        Some(filter) => kept(alloc, world, scope, &filter.test, rows),
+    }
+}
+
+// The rows on which the condition is true.
+#[cycle(eval)]
+#[tactic(auto, using(qc_data::proofs::Outcomes::gather_is))]
+fn kept<'a>(
+    alloc: Global,
+    world: &World,
+    scope: &Scope,
+    test: &Oql,
+    rows: &'a [Row],
+) -> Result<Vec<&'a Row>, Halt>
+    ensures { GivesRefs (gather (selecting.kept_row (meaning.oql bits64 world.now test.now) (bindings_of scope.now)) rows.now) result }
+{
+    let mut kept = Vec::new(alloc);
+    for row in rows {
+        if let Some(row) = kept_row(alloc, world, scope, test, row)? {
+            match kept.push(row) {
+                Ok(()) => {}
+                Err(_) => return Err(Halt::Memory),
+            }
+        }
+    }
+    Ok(kept)
+}
+
+// The row, if the condition is true on it.
+#[cycle(eval)]
+#[tactic(auto, unfolding(crate::specs::Selecting::kept_row))]
+fn kept_row<'a>(
+    alloc: Global,
+    world: &World,
+    scope: &Scope,
+    test: &Oql,
+    row: &'a Row,
+) -> Result<Option<&'a Row>, Halt>
+    ensures { GivesKept (selecting.kept_row (meaning.oql bits64 world.now test.now) (bindings_of scope.now) row.now) result }
+{
+    if truth(alloc, world, &Scope::Row(row.as_slice(), &*scope), test)? {
+        Ok(Some(row))
+    } else {
+        Ok(None)
+    }
+}
+
+// The rows in the order of the keys, if there are any.
+#[cycle(eval)]
+#[tactic(auto, using(crate::proofs::Forms::order_is))]
+fn ordered<'a>(
+    alloc: Global,
+    world: &World,
+    scope: &Scope,
+    order: &Option<Order>,
+    rows: Vec<&'a Row>,
+) -> Result<Vec<&'a Row>, Halt>
+    ensures { GivesRefs (selecting.ordered (option_map (meaning.order bits64 world.now) order.now) (bindings_of scope.now) (behind rows.entry.items)) result }
+{
+    match order {
+        None => Ok(rows),
+        Some(order) => ordered_by(alloc, world, scope, order.keys.as_slice(), rows.as_slice()),
+    }
+}
+
+// The rows in the order of the keys.
+#[cycle(eval)]
+#[tactic(auto, unfolding(crate::specs::Selecting::ordered_by))]
+fn ordered_by<'a>(
+    alloc: Global,
+    world: &World,
+    scope: &Scope,
+    keys: &[Key],
+    rows: &[&'a Row],
+) -> Result<Vec<&'a Row>, Halt>
+    ensures { GivesRefs (selecting.ordered_by (map (meaning.key bits64 world.now) keys.now) (bindings_of scope.now) (behind rows.now)) result }
+{
+    let keyed = keyed_rows(alloc, world, scope, keys, rows)?;
+    in_order(alloc, keys, keyed)
+}
+
+// The rows with the values of the keys.
+#[cycle(eval)]
+#[tactic(auto, using(qc_data::proofs::Outcomes::gather_is))]
+fn keyed_rows<'a>(
+    alloc: Global,
+    world: &World,
+    scope: &Scope,
+    keys: &[Key],
+    rows: &[&'a Row],
+) -> Result<Vec<Keyed<'a>>, Halt>
+    ensures { GivesKeyed (each (selecting.keyed (map (meaning.key bits64 world.now) keys.now) (bindings_of scope.now)) (behind rows.now)) result }
+{
+    let mut all = Vec::new(alloc);
+    for row in rows {
+        let keyed = keyed_row(alloc, world, scope, keys, row)?;
+        match all.push(keyed) {
+            Ok(()) => {}
+            Err(_) => return Err(Halt::Memory),
+        }
+    }
+    Ok(all)
+}
+
+// The row with the values of the keys.
+#[cycle(eval)]
+#[tactic(auto, unfolding(crate::specs::Selecting::keyed))]
+fn keyed_row<'a>(
+    alloc: Global,
+    world: &World,
+    scope: &Scope,
+    keys: &[Key],
+    row: &'a Row,
+) -> Result<Keyed<'a>, Halt>
+    ensures { GivesOneKeyed (selecting.keyed (map (meaning.key bits64 world.now) keys.now) (bindings_of scope.now) row.now) result }
+{
+    let keys = row_keys(alloc, world, scope, keys, row)?;
+    Ok(Keyed { keys, row })
+}
+
+// The values of the keys on a row.
+#[cycle(eval)]
+fn row_keys(
+    alloc: Global,
+    world: &World,
+    scope: &Scope,
+    keys: &[Key],
+    row: &Row,
+) -> Result<Items, Halt>
+    ensures { Gives (selecting.key_values (map (meaning.key bits64 world.now) keys.now) (row.now ++ bindings_of scope.now)) result }
+{
+    key_values(alloc, world, &Scope::Row(row.as_slice(), &*scope), keys)
+}
+
+// The values of the keys.
+#[cycle(eval)]
+#[tactic(auto, using(qc_data::proofs::Outcomes::gather_is, crate::proofs::Forms::key_is), unfolding(crate::specs::Selecting::key_values))]
+fn key_values(alloc: Global, world: &World, scope: &Scope, keys: &[Key]) -> Result<Items, Halt>
+    ensures { Gives (selecting.key_values (map (meaning.key bits64 world.now) keys.now) (bindings_of scope.now)) result }
+{
+    let mut values = Items::new(alloc);
+    for key in keys {
+        values.add(outcome(alloc, world, scope, &key.of)?)?;
+    }
+    Ok(values)
+}
+
+// The value for each row.
+#[cycle(eval)]
+#[tactic(auto, using(qc_data::proofs::Outcomes::gather_is))]
+fn values_of(
+    alloc: Global,
+    world: &World,
+    scope: &Scope,
+    value: &Oql,
+    rows: &[&Row],
+) -> Result<Items, Halt>
+    ensures { Gives (each (λ row. meaning.oql bits64 world.now value.now (row ++ bindings_of scope.now)) (behind rows.now)) result }
+{
+    let mut values = Items::new(alloc);
+    for row in rows {
+        values.add(outcome(alloc, world, &Scope::Row(row.as_slice(), &*scope), value)?)?;
+    }
+    Ok(values)
+}
