@@ -10,14 +10,10 @@ mod encoding;
 mod facts;
 mod halt;
 mod list;
-#[cfg(test)]
-mod making;
 mod name;
 mod name_map;
 mod order;
 mod sameness;
-#[cfg(test)]
-mod tests;
 mod text;
 mod text_map;
 

@@ -13,6 +13,3 @@ pub use fault::SyntaxFault;
 pub use parse::parse_whole;
 pub use placed::Placed;
 pub use stop::Stop;
-
-#[cfg(test)]
-mod tests;

@@ -7,8 +7,6 @@ mod file;
 mod shelf;
 mod sink;
 mod stream;
-#[cfg(test)]
-mod tests;
 
 pub use device::{Failed, FetchFault, Shelf, Sink};
 pub use file::FileShelf;

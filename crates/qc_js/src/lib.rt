@@ -2,8 +2,6 @@
 #![tactic(auto)]
 
 mod emit;
-#[cfg(test)]
-mod tests;
 mod tree;
 
 pub use emit::emit_text;

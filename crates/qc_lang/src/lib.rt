@@ -5,8 +5,6 @@ mod compose;
 mod language;
 mod pair;
 mod passing;
-#[cfg(test)]
-mod tests;
 
 pub use compose::after;
 pub use language::Lang;

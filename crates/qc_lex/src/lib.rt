@@ -7,8 +7,6 @@ mod fault;
 mod front;
 mod quotes;
 mod scanning;
-#[cfg(test)]
-mod tests;
 mod token;
 mod words;
 

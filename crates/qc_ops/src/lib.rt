@@ -16,11 +16,7 @@ mod pattern;
 mod records;
 mod sides;
 mod sorting;
-#[cfg(test)]
-mod tests;
 mod texts;
-#[cfg(test)]
-mod trial;
 mod truths;
 
 pub use apply::{apply1, apply2};

@@ -8,7 +8,5 @@ mod parts;
 mod query;
 mod record;
 mod scope;
-#[cfg(test)]
-mod tests;
 
 pub use query::check;

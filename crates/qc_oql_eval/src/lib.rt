@@ -12,8 +12,6 @@ mod record;
 mod rows;
 mod scope;
 mod selecting;
-#[cfg(test)]
-mod tests;
 
 pub use operators::{Pairing, branding, division, on_one, pairing_of};
 pub use query::eval;

@@ -6,8 +6,6 @@ mod clauses;
 mod levels;
 mod reader;
 mod rules;
-#[cfg(test)]
-mod tests;
 mod words;
 
 pub use reader::parse;

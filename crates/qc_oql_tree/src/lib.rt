@@ -5,8 +5,6 @@ pub mod kinds;
 mod lexeme;
 pub mod making;
 pub mod operators;
-#[cfg(test)]
-mod tests;
 mod tree;
 
 pub use lexeme::Lexeme;

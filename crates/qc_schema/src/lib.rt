@@ -7,8 +7,6 @@ mod input;
 mod reading;
 mod schema;
 mod sound;
-#[cfg(test)]
-mod tests;
 mod typing;
 mod writing;
 

@@ -10,11 +10,7 @@ mod goodness;
 mod joining;
 mod naming;
 mod rows;
-#[cfg(test)]
-mod samples;
 mod schema;
-#[cfg(test)]
-mod tests;
 mod ty;
 mod world;
 

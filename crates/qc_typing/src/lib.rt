@@ -9,10 +9,6 @@ mod fields;
 mod kinds;
 mod records;
 mod rows;
-#[cfg(test)]
-mod samples;
-#[cfg(test)]
-mod tests;
 mod unary;
 
 pub use binary::type2;
