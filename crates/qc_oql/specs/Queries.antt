@@ -9,7 +9,7 @@ use Rattle.qc_types.specs.Schemas.{SchemaOf}
 use Rattle.qc_oql_tree.specs.declared.tree.Query.{Query}
 use Rattle.qc_oql_tree.specs.Grammar as grammar
 use Rattle.qc_oql_tree.specs.Lexemes.{kind}
-use Rattle.qc_oql_check.specs.Typing.{query_type}
+use Rattle.qc_oql_tree.specs.Typing.{query_type}
 use Rattle.qc_oql.specs.declared.fault.QueryFault.{QueryFault}
 use Rattle.qc_oql.specs.declared.fault.QueryFault.TheVariants.{BadScan, TooManyTokens, BadSyntax, BadType, Memory}
 use Rattle.qc_oql.specs.declared.reading.TypedQuery.{TypedQuery}

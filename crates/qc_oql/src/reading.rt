@@ -1,6 +1,6 @@
 // From the bytes of a file to a query with its type.
 ghost use Rattle.std.specs.Prelude.{◌≤◌, length, IfOk};
-ghost use Rattle.qc_oql_check.specs.Soundness.{IsSound};
+ghost use Rattle.qc_oql_tree.specs.Soundness.{IsSound};
 ghost use Rattle.qc_oql.specs.Queries.{Answers};
 
 use crate::fault::QueryFault;

@@ -21,13 +21,13 @@ use Rattle.qc_typing.proofs.Outcomes.{Holds, all_to, holds_each, holds_then}
 use Rattle.qc_typing.proofs.BagValues.{firsts_all, map_all, pass_all, sort_all}
 use Rattle.qc_typing.proofs.RecordValues.{holds_if}
 use Rattle.qc_typing.proofs.Values.{Any, below_type, bool_holds, int_holds, make_coll, text_holds}
-use Rattle.qc_oql_eval.specs.Bindings.{Bindings, Meaning}
-use Rattle.qc_oql_eval.specs.Forms.{NamedMeaning, truth}
-use Rattle.qc_oql_eval.specs.Meaning.{defined}
-use Rattle.qc_oql_eval.specs.Selecting.{KeyMeaning, KeyedRow, source_items, rows_with, extended, rows_from, kept_row, filtered, key_values, keyed, value_at, are_sortable, keys_cmp, sorted, ordered_by, ordered, distinct_if, selected}
-use Rattle.qc_oql_check.specs.Forms.{Types, Typing, NamedTyping, FilterTyping, OrderTyping, source_type, sources_bound, filter_checked, keys_checked, order_checked, selected_type}
-use Rattle.qc_oql_check.specs.Parts.{bound_by}
-use Rattle.qc_oql_check.specs.Typing.{defined_type}
+use Rattle.qc_oql_tree.specs.Bindings.{Bindings, Meaning}
+use Rattle.qc_oql_tree.specs.FormMeanings.{NamedMeaning, truth}
+use Rattle.qc_oql_tree.specs.Meaning.{defined}
+use Rattle.qc_oql_tree.specs.SelectMeaning.{KeyMeaning, KeyedRow, source_items, rows_with, extended, rows_from, kept_row, filtered, key_values, keyed, value_at, are_sortable, keys_cmp, sorted, ordered_by, ordered, distinct_if, selected}
+use Rattle.qc_oql_tree.specs.FormTypings.{Types, Typing, NamedTyping, FilterTyping, OrderTyping, source_type, sources_bound, filter_checked, keys_checked, order_checked, selected_type}
+use Rattle.qc_oql_tree.specs.PartTypes.{bound_by}
+use Rattle.qc_oql_tree.specs.Typing.{defined_type}
 use Rattle.qc_oql_check.proofs.Checked.{Checked, Zip, checked_at, checked_fault, checked_gather, checked_known, checked_map, checked_then, each_zip, zip_through}
 use Rattle.qc_oql_check.proofs.Scopes.{Agree, Sound, SoundF, SoundK, SoundN, SoundO}
 use Rattle.qc_oql_check.proofs.FormsSound.{bound_typed, truth_holds}

@@ -4,11 +4,11 @@ ghost use Rattle.qc_ops.specs.declared.op.Unary.TheVariants as one;
 ghost use Rattle.qc_types.specs.Joins as joining;
 ghost use Rattle.qc_types.specs.Types.{sub};
 ghost use Rattle.qc_types.specs.declared.ty.Ty.TheVariants as ty;
-ghost use Rattle.qc_oql_check.specs.Forms as form;
-ghost use Rattle.qc_oql_check.specs.Parts.{branded_type, divided_type, field_type, sides_of, type_at_one, type_by_pairing};
-ghost use Rattle.qc_oql_check.specs.Scopes.{ChecksAs, field_types, onto, types_of};
-ghost use Rattle.qc_oql_check.specs.Typing as typing;
-ghost use Rattle.qc_oql_eval.specs.Operators.{on_one, pairing_of};
+ghost use Rattle.qc_oql_tree.specs.FormTypings as form;
+ghost use Rattle.qc_oql_tree.specs.OperatorTypes.{branded_type, divided_type, field_type, one_type, two_type};
+ghost use Rattle.qc_oql_tree.specs.PartTypes.{sides_of};
+ghost use Rattle.qc_oql_check.specs.inner.Scopes.{ChecksAs, field_types, onto, types_of};
+ghost use Rattle.qc_oql_tree.specs.Typing as typing;
 ghost use Rattle.qc_oql_tree.specs.declared.tree.Oql.TheViews.{out-Select};
 ghost use Rattle.qc_typing.specs.Checking.{and_check, each_checked, need, or_fault, Checks};
 ghost use Rattle.qc_typing.specs.Kinds.{when};
@@ -16,7 +16,7 @@ ghost use Rattle.qc_typing.specs.Tables.{unary_type};
 
 use crate::faults::{need, or_fault};
 use crate::operators::{
-    branded_type, divided_type, field_type, like_type, type_at_one, type_at_two,
+    branded_type, divided_type, field_type, like_type, one_type, two_type,
 };
 use crate::parts::{bool_when, bound_by, coll_of, constant_type, is_atom, join_all, sides_of};
 use crate::record::{TypedField, row_of};
@@ -93,10 +93,10 @@ fn of_one(
     operator: Unary,
     a: &Oql,
 ) -> Result<Ty, TypeFault>
-    ensures { Checks (form.type_after at (type_at_one schema.now.classes (on_one operator)) (typing.oql_type schema.now a.now) (types_of scope.now)) result }
+    ensures { Checks (form.type_after at (one_type schema.now.classes operator) (typing.oql_type schema.now a.now) (types_of scope.now)) result }
 {
     let x = type_of(alloc, schema, scope, a)?;
-    or_fault(at, type_at_one(alloc, schema.classes(), operator, &x)?)
+    or_fault(at, one_type(alloc, schema.classes(), operator, &x)?)
 }
 
 // An operator of two operands, by the type of the left one.
@@ -110,12 +110,12 @@ fn of_right(
     operator: Binary,
     left: &Ty,
 ) -> Result<Ty, TypeFault>
-    ensures { Checks (and_check (typing.oql_type schema.now b.now (types_of scope.now)) (λ right. or_fault at (type_by_pairing schema.now.classes (pairing_of operator) left.now right))) result }
+    ensures { Checks (and_check (typing.oql_type schema.now b.now (types_of scope.now)) (λ right. or_fault at (two_type schema.now.classes operator left.now right))) result }
 {
     let right = type_of(alloc, schema, scope, b)?;
     or_fault(
         at,
-        type_at_two(alloc, schema.classes(), operator, left, &right)?,
+        two_type(alloc, schema.classes(), operator, left, &right)?,
     )
 }
 

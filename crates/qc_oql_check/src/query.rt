@@ -1,9 +1,9 @@
 // The types of queries.
 ghost use Rattle.std.specs.Prelude.{map, IfOk};
-ghost use Rattle.qc_oql_check.specs.Soundness.{IsSound};
+ghost use Rattle.qc_oql_tree.specs.Soundness.{IsSound};
 ghost use Rattle.qc_typing.specs.Checking.{Checks};
-ghost use Rattle.qc_oql_check.specs.Scopes.{types_of};
-ghost use Rattle.qc_oql_check.specs.Typing as typing;
+ghost use Rattle.qc_oql_check.specs.inner.Scopes.{types_of};
+ghost use Rattle.qc_oql_tree.specs.Typing as typing;
 
 use crate::expression::type_of;
 use crate::scope::Scope;

@@ -5,7 +5,7 @@ use Rattle.qc_data.proofs.Total.{cmp_total}
 use Rattle.qc_data.specs.declared.data.Datum.{Datum}
 use Rattle.qc_ops.specs.Sorting.{directed}
 use Rattle.qc_oql_tree.specs.declared.tree.Direction.{Direction}
-use Rattle.qc_oql_eval.specs.Selecting.{is_ascending, keys_cmp, value_at}
+use Rattle.qc_oql_tree.specs.SelectMeaning.{is_ascending, keys_cmp, value_at}
 use Rattle.qc_oql_eval.specs.declared.ordering.Keyed.{Keyed}
 
 level : IsTotalOrder {K = List Datum} (λ xs ys. Equal)

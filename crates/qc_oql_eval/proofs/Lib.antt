@@ -1,8 +1,6 @@
-pub mod Agreeing
 pub mod Arms
 pub mod Deciding
-pub mod Forms
 pub mod KeyOrder
-pub mod Laws
+pub mod Keys
 pub mod Lookups
 pub mod Recording

@@ -8,9 +8,9 @@ ghost use Rattle.qc_data.specs.declared.data.Datum.TheVariants.{Unit as Nothing}
 ghost use Rattle.qc_ops.specs.Columns.{behind, GivesRefs};
 ghost use Rattle.qc_ops.specs.Operands.{only_if};
 ghost use Rattle.qc_ops.specs.Sorting.{directed, one_kind};
-ghost use Rattle.qc_oql_eval.specs.Kinds.{is_of};
-ghost use Rattle.qc_oql_eval.specs.Rows.{keyed_rows};
-ghost use Rattle.qc_oql_eval.specs.Selecting.{are_sortable, directions, is_ascending, keys_cmp, sorted, value_at};
+ghost use Rattle.qc_oql_eval.specs.inner.SortKinds.{is_of};
+ghost use Rattle.qc_oql_eval.specs.inner.Rows.{keyed_rows, directions};
+ghost use Rattle.qc_oql_tree.specs.SelectMeaning.{are_sortable, is_ascending, keys_cmp, sorted, value_at};
 
 use crate::scope::Row;
 use qc_data::{Datum, Halt, List, Memory, cmp};

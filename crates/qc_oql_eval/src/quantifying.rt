@@ -1,9 +1,9 @@
 // Whether some or each member of a collection meets a condition.
 ghost use Rattle.std.specs.Prelude.{◌≡◌, [], ◌∷◌};
 ghost use Rattle.qc_data.specs.Outcome.{bits64, Gives};
-ghost use Rattle.qc_oql_eval.specs.Bindings.{bindings_of};
-ghost use Rattle.qc_oql_eval.specs.Forms as form;
-ghost use Rattle.qc_oql_eval.specs.Meaning as meaning;
+ghost use Rattle.qc_oql_eval.specs.inner.Scopes.{bindings_of};
+ghost use Rattle.qc_oql_tree.specs.FormMeanings as form;
+ghost use Rattle.qc_oql_tree.specs.Meaning as meaning;
 
 use crate::expression::truth;
 use crate::operands::items_of;
@@ -77,7 +77,7 @@ fn member_truth(
 }
 
 // The answer where there is no member.
-#[tactic(auto, unfolding(crate::specs::Forms::decides))]
+#[tactic(auto, unfolding(qc_oql_tree::specs::FormMeanings::decides))]
 fn starts(quantifier: Quantifier) -> bool
     ensures { result ≡ form.decides quantifier [] }
 {
@@ -88,7 +88,7 @@ fn starts(quantifier: Quantifier) -> bool
 }
 
 // The answer with one more member.
-#[tactic(auto, unfolding(crate::specs::Forms::decides))]
+#[tactic(auto, unfolding(qc_oql_tree::specs::FormMeanings::decides))]
 fn joins(quantifier: Quantifier, answer: bool, holds: bool) -> bool
     ensures { result ≡ form.decides quantifier (answer ∷ holds ∷ []) }
 {

@@ -1,8 +1,8 @@
 // The outcome of queries in 64 bits.
 ghost use Rattle.std.specs.Prelude.{ℤ, map};
 ghost use Rattle.qc_data.specs.Outcome.{any_size, bits64, within, Agrees, Gives};
-ghost use Rattle.qc_oql_eval.specs.Bindings.{bindings_of};
-ghost use Rattle.qc_oql_eval.specs.Meaning as meaning;
+ghost use Rattle.qc_oql_eval.specs.inner.Scopes.{bindings_of};
+ghost use Rattle.qc_oql_tree.specs.Meaning as meaning;
 
 use crate::expression::outcome;
 use crate::scope::Scope;

@@ -3,10 +3,10 @@ ghost use Rattle.std.specs.Prelude.{◌++◌, map, option_map};
 ghost use Rattle.qc_data.specs.Outcome.{bits64, each, gather, Gives};
 ghost use Rattle.qc_ops.specs.Columns.{behind, GivesRefs};
 ghost use Rattle.qc_oql_tree.specs.declared.tree.Oql.TheViews.{out-Select};
-ghost use Rattle.qc_oql_eval.specs.Bindings.{bindings_of};
-ghost use Rattle.qc_oql_eval.specs.Meaning as meaning;
-ghost use Rattle.qc_oql_eval.specs.Rows.{GivesKept, GivesKeyed, GivesOneKeyed};
-ghost use Rattle.qc_oql_eval.specs.Selecting as selecting;
+ghost use Rattle.qc_oql_eval.specs.inner.Scopes.{bindings_of};
+ghost use Rattle.qc_oql_tree.specs.Meaning as meaning;
+ghost use Rattle.qc_oql_eval.specs.inner.Rows.{GivesKept, GivesKeyed, GivesOneKeyed};
+ghost use Rattle.qc_oql_tree.specs.SelectMeaning as selecting;
 
 use crate::expression::{outcome, truth};
 use crate::operators::distinct_if;
@@ -49,7 +49,7 @@ fn rows_of(alloc: Global, world: &World, scope: &Scope, sources: &[Named]) -> Re
 
 // The rows with a source's name bound to each of its members.
 #[cycle(eval)]
-#[tactic(auto, using(qc_data::proofs::Outcomes::gather_is, crate::proofs::Forms::named_name))]
+#[tactic(auto, using(qc_data::proofs::Outcomes::gather_is, qc_oql_tree::proofs::MeaningForms::named_name))]
 fn extended(
     alloc: Global,
     world: &World,
@@ -75,7 +75,7 @@ fn extended(
 
 // The members of a source behind a row.
 #[cycle(eval)]
-#[tactic(auto, unfolding(crate::specs::Selecting::source_items))]
+#[tactic(auto, unfolding(qc_oql_tree::specs::SelectMeaning::source_items))]
 fn source_items(
     alloc: Global,
     world: &World,
@@ -93,7 +93,7 @@ fn source_items(
 
 // The value of a source behind a row.
 #[cycle(eval)]
-#[tactic(auto, using(crate::proofs::Forms::named_is))]
+#[tactic(auto, using(qc_oql_tree::proofs::MeaningForms::named_is))]
 fn source_value(
     alloc: Global,
     world: &World,
@@ -113,7 +113,7 @@ fn source_value(
 
 // The rows that the condition keeps, if there is one.
 #[cycle(eval)]
-#[tactic(auto, using(crate::proofs::Forms::filter_is))]
+#[tactic(auto, using(qc_oql_tree::proofs::MeaningForms::filter_is))]
 fn filtered<'a>(
     alloc: Global,
     world: &World,
@@ -155,7 +155,7 @@ fn kept<'a>(
 
 // The row, if the condition is true on it.
 #[cycle(eval)]
-#[tactic(auto, unfolding(crate::specs::Selecting::kept_row))]
+#[tactic(auto, unfolding(qc_oql_tree::specs::SelectMeaning::kept_row))]
 fn kept_row<'a>(
     alloc: Global,
     world: &World,
@@ -174,7 +174,7 @@ fn kept_row<'a>(
 
 // The rows in the order of the keys, if there are any.
 #[cycle(eval)]
-#[tactic(auto, using(crate::proofs::Forms::order_is))]
+#[tactic(auto, using(qc_oql_tree::proofs::MeaningForms::order_is))]
 fn ordered<'a>(
     alloc: Global,
     world: &World,
@@ -192,7 +192,7 @@ fn ordered<'a>(
 
 // The rows in the order of the keys.
 #[cycle(eval)]
-#[tactic(auto, unfolding(crate::specs::Selecting::ordered_by))]
+#[tactic(auto, unfolding(qc_oql_tree::specs::SelectMeaning::ordered_by))]
 fn ordered_by<'a>(
     alloc: Global,
     world: &World,
@@ -231,7 +231,7 @@ fn keyed_rows<'a>(
 
 // The row with the values of the keys.
 #[cycle(eval)]
-#[tactic(auto, unfolding(crate::specs::Selecting::keyed))]
+#[tactic(auto, unfolding(qc_oql_tree::specs::SelectMeaning::keyed))]
 fn keyed_row<'a>(
     alloc: Global,
     world: &World,
@@ -261,7 +261,7 @@ fn row_keys(
 
 // The values of the keys.
 #[cycle(eval)]
-#[tactic(auto, using(qc_data::proofs::Outcomes::gather_is, crate::proofs::Forms::key_is), unfolding(crate::specs::Selecting::key_values))]
+#[tactic(auto, using(qc_data::proofs::Outcomes::gather_is, qc_oql_tree::proofs::MeaningForms::key_is), unfolding(qc_oql_tree::specs::SelectMeaning::key_values))]
 fn key_values(alloc: Global, world: &World, scope: &Scope, keys: &[Key]) -> Result<Items, Halt>
     ensures { Gives (selecting.key_values (map (meaning.key bits64 world.now) keys.now) (bindings_of scope.now)) result }
 {

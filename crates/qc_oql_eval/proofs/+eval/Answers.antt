@@ -2,10 +2,11 @@ use Rattle.std.proofs.Common.{◌≡◌, ◌∙◌, rules}
 use Rattle.qc_data.specs.Outcome.{bits64}
 use Rattle.qc_oql_tree.specs.declared.tree.Oql.TheVariants as tree
 use Rattle.qc_ops.specs.Columns.{behind}
-use Rattle.qc_oql_eval.specs.Bindings.{bindings_of}
-use Rattle.qc_oql_eval.specs.Rows.{keyed_rows}
+use Rattle.qc_oql_eval.specs.inner.Scopes.{bindings_of}
+use Rattle.qc_oql_eval.specs.inner.Rows.{keyed_rows}
 use Rattle.qc_oql_eval.proofs.Arms.{arm}
-use Rattle.qc_oql_eval.proofs.Forms.{layers, ordered_by_is, oql-Struct, oql-Bag, oql-Select, select_is}
+use Rattle.qc_oql_tree.proofs.MeaningForms.{oql-Struct, oql-Bag, oql-Select, select_is}
+use Rattle.qc_oql_eval.proofs.Keys.{layers, ordered_by_is}
 use Rattle.qc_oql_eval.proofs.+eval.Goals as goal
 
 pub expression::outcome-returns-in-Struct : goal.expression::outcome-returns-in-Struct

@@ -1,6 +1,6 @@
 use Rattle.std.proofs.Common.{◌≡◌, ◌∙◌, arith, rules}
 use Rattle.qc_oql_tree.specs.declared.tree.Oql.TheVariants as tree
-use Rattle.qc_oql_check.specs.Scopes.{types_of}
+use Rattle.qc_oql_check.specs.inner.Scopes.{types_of}
 use Rattle.qc_oql_check.proofs.Arms.{arm}
 use Rattle.qc_oql_check.proofs.Binding.{bound_more}
 use Rattle.qc_oql_check.proofs.Forms.{layers, oql-Name, oql-Struct, oql-Bag, oql-Unary, oql-Divide, oql-Like, oql-Dot, oql-Brand, oql-Select, select_is}

@@ -1,6 +1,6 @@
 use Rattle.std.proofs.Common.{rules}
 use Rattle.qc_typing.specs.Checking.{Checks}
-use Rattle.qc_oql_check.specs.Typing.{query_type}
+use Rattle.qc_oql_tree.specs.Typing.{query_type}
 use Rattle.qc_oql_check.proofs.Answered.{answered}
 use Rattle.qc_oql_check.proofs.query.check.Goals as goal
 

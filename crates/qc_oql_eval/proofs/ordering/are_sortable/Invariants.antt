@@ -1,6 +1,6 @@
 use Rattle.std.proofs.Common.{◌≡◌, drop}
-use Rattle.qc_oql_eval.specs.Rows.{keyed_rows}
-use Rattle.qc_oql_eval.specs.Selecting.{are_sortable, directions}
+use Rattle.qc_oql_eval.specs.inner.Rows.{keyed_rows, directions}
+use Rattle.qc_oql_tree.specs.SelectMeaning.{are_sortable}
 use Rattle.qc_oql_eval.proofs.ordering.are_sortable.Given as goal
 
 abbrev pub invariant-loop-at : goal.invariant-loop-at

@@ -1,5 +1,6 @@
 use Rattle.std.proofs.Common.{◌≡◌, drop}
-use Rattle.qc_oql_eval.specs.Selecting.{directions, keys_cmp}
+use Rattle.qc_oql_eval.specs.inner.Rows.{directions}
+use Rattle.qc_oql_tree.specs.SelectMeaning.{keys_cmp}
 use Rattle.qc_oql_eval.proofs.ordering.keys_cmp.Given as goal
 
 abbrev pub invariant-loop-at : goal.invariant-loop-at

@@ -1,8 +1,8 @@
 use Rattle.std.proofs.Common.{◌≡◌, ◌∙◌, ap, rules}
 use Rattle.qc_data.specs.Order.{sort_by}
 use Rattle.qc_ops.proofs.RowOrder.{sort-map, sorted_by}
-use Rattle.qc_oql_eval.specs.Rows.{keyed_rows}
-use Rattle.qc_oql_eval.specs.Selecting.{directions, keys_cmp}
+use Rattle.qc_oql_eval.specs.inner.Rows.{keyed_rows, directions}
+use Rattle.qc_oql_tree.specs.SelectMeaning.{keys_cmp}
 use Rattle.qc_oql_eval.proofs.KeyOrder.{keyed_total}
 use Rattle.qc_oql_eval.proofs.ordering.sorted.Goals as goal
 

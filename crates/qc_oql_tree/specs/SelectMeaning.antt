@@ -11,12 +11,10 @@ use Rattle.qc_data.specs.declared.data.Datum.TheVariants.{Unit as Nothing, Coll}
 use Rattle.qc_ops.specs.Bags.{firsts}
 use Rattle.qc_ops.specs.Operands.{only_if}
 use Rattle.qc_ops.specs.Sorting.{one_kind, directed}
-use Rattle.qc_oql_tree.specs.declared.tree.Key.{Key}
-use Rattle.qc_oql_tree.specs.declared.tree.Oql.TheViews.{out-Key}
 use Rattle.qc_oql_tree.specs.declared.tree.Direction.{Direction}
 use Rattle.qc_oql_tree.specs.declared.tree.Direction.TheVariants.{Asc, Desc}
-use Rattle.qc_oql_eval.specs.Bindings.{Bindings, Meaning}
-use Rattle.qc_oql_eval.specs.Forms.{NamedMeaning, truth}
+use Rattle.qc_oql_tree.specs.Bindings.{Bindings, Meaning}
+use Rattle.qc_oql_tree.specs.FormMeanings.{NamedMeaning, truth}
 
 -- a key with its direction
 abbrev pub KeyMeaning : Type 0
@@ -104,7 +102,3 @@ distinct_if distinct xs = cond distinct (firsts xs) xs
 abbrev pub selected : Bool → Meaning → List NamedMeaning → Option Meaning → Option (List KeyMeaning) → Meaning
 selected distinct value sources filter order s =
     and_then (rows_of sources s) (λ rows. and_then (filtered filter s rows) (λ kept. and_then (ordered order s kept) (λ sorted. and_then (each (λ row. value (row ++ s)) sorted) (λ values. Value (Coll (distinct_if distinct values))))))
-
--- the directions of keys
-abbrev pub directions : List Key → List Direction
-directions keys = map (λ key. (out-Key key).direction) keys

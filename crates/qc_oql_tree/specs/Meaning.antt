@@ -15,10 +15,10 @@ use Rattle.qc_oql_tree.specs.declared.tree.Named.{Named}
 use Rattle.qc_oql_tree.specs.declared.tree.Order.{Order}
 use Rattle.qc_oql_tree.specs.declared.tree.Query.{Query}
 use Rattle.qc_oql_tree.specs.declared.tree.Select.{Select}
-use Rattle.qc_oql_eval.specs.Bindings.{Meaning, value_of}
-use Rattle.qc_oql_eval.specs.Forms.{NamedMeaning, constant, after, by_pairing, matched, chosen, quantified, collected, structured}
-use Rattle.qc_oql_eval.specs.Operators.{one_value, pairing_of, divided, branded}
-use Rattle.qc_oql_eval.specs.Selecting.{KeyMeaning, selected}
+use Rattle.qc_oql_tree.specs.Bindings.{Meaning, value_of}
+use Rattle.qc_oql_tree.specs.OperatorMeanings.{after, one_value, of_two, divided, branded}
+use Rattle.qc_oql_tree.specs.FormMeanings.{NamedMeaning, constant, matched, chosen, quantified, collected, structured}
+use Rattle.qc_oql_tree.specs.SelectMeaning.{KeyMeaning, selected}
 
 -- an expression, by the meanings of its parts
 abbrev pub form : Mode → WorldOf → Oql-F Meaning Meaning KeyMeaning NamedMeaning (List KeyMeaning) Meaning → Meaning
@@ -29,7 +29,7 @@ form m w (Oql-F.Constant at c) = λ s. Value (constant c)
 form m w (Oql-F.Struct at fields) = structured fields
 form m w (Oql-F.Bag at members) = collected members
 form m w (Oql-F.Unary at op a) = after (one_value m w.classes op) a
-form m w (Oql-F.Binary at op a b) = by_pairing m (pairing_of op) a b
+form m w (Oql-F.Binary at op a b) = of_two m op a b
 form m w (Oql-F.Divide at division a k) = after (divided m w.classes division k) a
 form m w (Oql-F.Like at a pattern) = after (likeness pattern) a
 form m w (Oql-F.Dot at a label) = after (field label) a

@@ -15,9 +15,8 @@ use Rattle.qc_oql_tree.specs.declared.tree.Named.{Named}
 use Rattle.qc_oql_tree.specs.declared.tree.Order.{Order}
 use Rattle.qc_oql_tree.specs.declared.tree.Query.{Query}
 use Rattle.qc_oql_tree.specs.declared.tree.Select.{Select}
-use Rattle.qc_oql_eval.specs.Operators.{on_one, pairing_of}
-use Rattle.qc_oql_check.specs.Forms.{Typing, NamedTyping, FilterTyping, OrderTyping, type_of, type_after, type_of_both, matched_type, chosen_type, quantified_type, collected_type, structured_type, selected_type}
-use Rattle.qc_oql_check.specs.Parts.{constant_type, type_at_one, type_by_pairing, divided_type, field_type, branded_type}
+use Rattle.qc_oql_tree.specs.FormTypings.{Typing, NamedTyping, FilterTyping, OrderTyping, type_of, type_after, type_of_both, matched_type, chosen_type, quantified_type, collected_type, structured_type, selected_type}
+use Rattle.qc_oql_tree.specs.OperatorTypes.{constant_type, one_type, two_type, divided_type, field_type, branded_type}
 
 -- an expression, by the typings of its parts
 abbrev pub form_type : SchemaOf → Oql-F Typing FilterTyping Typing NamedTyping OrderTyping Typing → Typing
@@ -27,8 +26,8 @@ form_type schema (Oql-F.Text at text) = λ s. Ok ty.Text
 form_type schema (Oql-F.Constant at constant) = λ s. Ok (constant_type constant)
 form_type schema (Oql-F.Struct at fields) = structured_type fields
 form_type schema (Oql-F.Bag at members) = collected_type schema.classes at members
-form_type schema (Oql-F.Unary at op a) = type_after at (type_at_one schema.classes (on_one op)) a
-form_type schema (Oql-F.Binary at op a b) = type_of_both at (type_by_pairing schema.classes (pairing_of op)) a b
+form_type schema (Oql-F.Unary at op a) = type_after at (one_type schema.classes op) a
+form_type schema (Oql-F.Binary at op a b) = type_of_both at (two_type schema.classes op) a b
 form_type schema (Oql-F.Divide at division a k) = type_after at (divided_type schema.classes division k) a
 form_type schema (Oql-F.Like at a pattern) = type_after at (unary_type schema.classes (one.Like pattern)) a
 form_type schema (Oql-F.Dot at a label) = type_after at (field_type schema.classes label) a
