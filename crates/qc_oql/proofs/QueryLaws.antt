@@ -23,7 +23,7 @@ use Rattle.qc_oql.proofs.Places.{one_place}
 
 -- ---- tokens
 
-same_words : (bytes : List ℕ) (a b : List Placed) → IsScan Oql bytes a → IsScan Oql bytes b → a ≡ b
+pub same_words : (bytes : List ℕ) (a b : List Placed) → IsScan Oql bytes a → IsScan Oql bytes b → a ≡ b
 same_words bytes a b s t = t.only a s.scanned
 
 -- tokens are not too many and few

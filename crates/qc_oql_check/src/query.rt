@@ -12,8 +12,9 @@ use qc_types::{Schema, Ty};
 use qc_typing::TypeFault;
 use std::alloc::Global;
 
-/// The type of a query in a schema. `BadType`: the query has no type, and its first fault is at the place; `Memory`: memory
-/// was wanting. In each world of the schema the query has a value of the type, and within bounds that value or Range.
+/// The type of a query in a schema. `BadType`: the query has no type, and its first fault is at the place; `Memory`:
+/// memory was wanting. In each world of the schema the query has a value of the type, and within bounds that value or
+/// Range.
 pub fn check(alloc: Global, schema: &Schema, query: &Query) -> Result<Ty, TypeFault>
     ensures value { Checks (typing.query_type schema.now query.now) result }
     ensures sound { IfOk result (λ t. IsSound schema.now query.now t) }
@@ -36,7 +37,9 @@ fn defined(
     defines: &[Named],
     body: &Oql,
 ) -> Result<Ty, TypeFault>
-    ensures { Checks (typing.defined_type (map (typing.named_type schema.now) defines.now) (typing.oql_type schema.now body.now) (types_of scope.now)) result }
+    ensures { Checks
+        (typing.defined_type (map (typing.named_type schema.now) defines.now) (typing.oql_type schema.now body.now)
+        (types_of scope.now)) result }
 {
     match defines {
         [] => type_of(alloc, schema, scope, body),

@@ -1,4 +1,5 @@
 pub mod Arms
+pub mod Columns
 pub mod Deciding
 pub mod KeyOrder
 pub mod Keys

@@ -139,7 +139,8 @@ fn of_one(
     operator: Unary,
     a: &Oql,
 ) -> Result<Datum, Halt>
-    ensures { Gives (after (one_value bits64 world.now.classes operator) (meaning.oql bits64 world.now a.now) (bindings_of scope.now)) result }
+    ensures { Gives (after (one_value bits64 world.now.classes operator) (meaning.oql bits64 world.now a.now)
+        (bindings_of scope.now)) result }
 {
     let x = operand(alloc, &*world, &*scope, a)?;
     one_value(alloc, world.classes(), operator, x.get())
@@ -156,7 +157,8 @@ fn of_two(
     a: &Oql,
     b: &Oql,
 ) -> Result<Datum, Halt>
-    ensures { Gives (of_two bits64 operator (meaning.oql bits64 world.now a.now) (meaning.oql bits64 world.now b.now) (bindings_of scope.now)) result }
+    ensures { Gives (of_two bits64 operator (meaning.oql bits64 world.now a.now) (meaning.oql bits64 world.now b.now)
+        (bindings_of scope.now)) result }
 {
     let left = outcome(alloc, world, scope, a)?;
     match pairing_of(operator) {
@@ -196,7 +198,8 @@ fn of_division(
     a: &Oql,
     k: i64,
 ) -> Result<Datum, Halt>
-    ensures { Gives (after (divided bits64 world.now.classes division k) (meaning.oql bits64 world.now a.now) (bindings_of scope.now)) result }
+    ensures { Gives (after (divided bits64 world.now.classes division k) (meaning.oql bits64 world.now a.now)
+        (bindings_of scope.now)) result }
 {
     let x = operand(alloc, &*world, &*scope, a)?;
     divided(alloc, world.classes(), division, k, x.get())
@@ -242,7 +245,8 @@ fn of_class(
     class: &Chars,
     a: &Oql,
 ) -> Result<Datum, Halt>
-    ensures { Gives (after (branded bits64 world.now.classes branding class.now) (meaning.oql bits64 world.now a.now) (bindings_of scope.now)) result }
+    ensures { Gives (after (branded bits64 world.now.classes branding class.now) (meaning.oql bits64 world.now a.now)
+        (bindings_of scope.now)) result }
 {
     let x = operand(alloc, &*world, &*scope, a)?;
     branded(alloc, world.classes(), branding, class, x.get())

@@ -24,7 +24,9 @@ pub(crate) fn tested(
     name: &Chars,
     source: &Datum,
 ) -> Result<Datum, Halt>
-    ensures { Gives (form.tested quantifier name.now (meaning.oql bits64 world.now test.now) (bindings_of scope.now) source.now) result }
+    ensures { Gives
+        (form.tested quantifier name.now (meaning.oql bits64 world.now test.now) (bindings_of scope.now) source.now)
+        result }
 {
     let items = items_of(source)?;
     let answer = decided(
@@ -51,7 +53,9 @@ fn decided(
     name: &Chars,
     items: &[Datum],
 ) -> Result<bool, Halt>
-    ensures { Gives (form.decided quantifier name.now (meaning.oql bits64 world.now test.now) (bindings_of scope.now) items.now) result }
+    ensures { Gives
+        (form.decided quantifier name.now (meaning.oql bits64 world.now test.now) (bindings_of scope.now) items.now)
+        result }
 {
     let mut answer = starts(quantifier);
     for item in items {
@@ -71,7 +75,8 @@ fn member_truth(
     name: &Chars,
     member: &Datum,
 ) -> Result<bool, Halt>
-    ensures { Gives (form.truth (meaning.oql bits64 world.now test.now) ((name.now, member.now) ∷ bindings_of scope.now)) result }
+    ensures { Gives
+        (form.truth (meaning.oql bits64 world.now test.now) ((name.now, member.now) ∷ bindings_of scope.now)) result }
 {
     truth(alloc, world, &Scope::Bind(&*name, &*member, &*scope), test)
 }

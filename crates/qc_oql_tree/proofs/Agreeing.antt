@@ -203,7 +203,7 @@ agrees_keyed xs ys s row z = agrees_then (key_values xs (row ++ s)) (key_values 
 
 -- the rows in order, if each key's values are of one kind
 abbrev finish : List Direction → List KeyedRow → Outcome (List Bindings)
-finish directions rows = only_if (are_sortable 0 directions rows) (Value (map (λ row. row.1) (sorted directions rows)))
+finish directions rows = only_if (are_sortable directions (map (λ row. row.0) rows)) (Value (map (λ row. row.1) (sorted directions rows)))
 
 agrees_ordered_by : (xs ys : List KeyMeaning) (s : Bindings) (rows : List Bindings) → Zip AgreesK xs ys → Agrees (ordered_by xs s rows) (ordered_by ys s rows)
 unfolding ordered_by

@@ -1,4 +1,5 @@
--- What the forms of expressions but operators and `select` mean, by the meanings of their parts. The first outcome that is no
+-- What the forms of expressions but operators and `select` mean, by the meanings of their parts. The first outcome that
+-- is no
 -- value decides.
 use Rattle.std.specs.Prelude.{ℕ, Bool, true, false, cond, List, [], ◌∷◌}
 use Rattle.std.specs.List.{list_any, list_all}
@@ -51,7 +52,8 @@ abbrev pub decided : Quantifier → List ℕ → Meaning → Bindings → List D
 decided q name test s xs = and_then (each (λ x. truth test ((name, x) ∷ s)) xs) (λ ts. Value (decides q ts))
 
 abbrev pub tested : Quantifier → List ℕ → Meaning → Bindings → Datum → Outcome Datum
-tested q name test s v = and_then (as_coll v) (λ xs. and_then (decided q name test s xs) (λ answer. Value (Truth answer)))
+tested q name test s v =
+    and_then (as_coll v) (λ xs. and_then (decided q name test s xs) (λ answer. Value (Truth answer)))
 
 -- exists, for all
 abbrev pub quantified : Quantifier → NamedMeaning → Meaning → Meaning

@@ -8,7 +8,8 @@ use Rattle.qc_ops.specs.Texts.{likeness}
 use Rattle.qc_types.specs.Schemas.{WorldOf}
 use Rattle.qc_oql_tree.specs.declared.tree.Oql.{Oql}
 use Rattle.qc_oql_tree.specs.declared.tree.Oql.TheOpen.{Oql-F, Filter-F, Key-F, Named-F, Order-F, Select-F}
-use Rattle.qc_oql_tree.specs.declared.tree.Oql.TheFolds.{fold-Oql, fold-Filter, fold-Key, fold-Named, fold-Order, fold-Select}
+use Rattle.qc_oql_tree.specs.declared.tree.Oql.TheFolds.{fold-Oql, fold-Filter, fold-Key, fold-Named, fold-Order}
+use Rattle.qc_oql_tree.specs.declared.tree.Oql.TheFolds.{fold-Select}
 use Rattle.qc_oql_tree.specs.declared.tree.Filter.{Filter}
 use Rattle.qc_oql_tree.specs.declared.tree.Key.{Key}
 use Rattle.qc_oql_tree.specs.declared.tree.Named.{Named}
@@ -62,23 +63,35 @@ select_form x = selected x.distinct x.value x.sources x.filter x.order
 module _ (m : Mode) (w : WorldOf) where
   -- the outcome of an expression in a mode and a world, by its bindings
   abbrev pub oql : Oql → Meaning
-  oql x = fold-Oql Meaning Meaning KeyMeaning NamedMeaning (List KeyMeaning) Meaning (form m w) filter_form key_form named_form order_form select_form x
+  oql x =
+      fold-Oql Meaning Meaning KeyMeaning NamedMeaning (List KeyMeaning) Meaning
+      (form m w) filter_form key_form named_form order_form select_form x
 
   -- the same of the structs of trees
   abbrev pub filter : Filter → Meaning
-  filter x = fold-Filter Meaning Meaning KeyMeaning NamedMeaning (List KeyMeaning) Meaning (form m w) filter_form key_form named_form order_form select_form x
+  filter x =
+      fold-Filter Meaning Meaning KeyMeaning NamedMeaning (List KeyMeaning) Meaning
+      (form m w) filter_form key_form named_form order_form select_form x
 
   abbrev pub key : Key → KeyMeaning
-  key x = fold-Key Meaning Meaning KeyMeaning NamedMeaning (List KeyMeaning) Meaning (form m w) filter_form key_form named_form order_form select_form x
+  key x =
+      fold-Key Meaning Meaning KeyMeaning NamedMeaning (List KeyMeaning) Meaning
+      (form m w) filter_form key_form named_form order_form select_form x
 
   abbrev pub named : Named → NamedMeaning
-  named x = fold-Named Meaning Meaning KeyMeaning NamedMeaning (List KeyMeaning) Meaning (form m w) filter_form key_form named_form order_form select_form x
+  named x =
+      fold-Named Meaning Meaning KeyMeaning NamedMeaning (List KeyMeaning) Meaning
+      (form m w) filter_form key_form named_form order_form select_form x
 
   abbrev pub order : Order → List KeyMeaning
-  order x = fold-Order Meaning Meaning KeyMeaning NamedMeaning (List KeyMeaning) Meaning (form m w) filter_form key_form named_form order_form select_form x
+  order x =
+      fold-Order Meaning Meaning KeyMeaning NamedMeaning (List KeyMeaning) Meaning
+      (form m w) filter_form key_form named_form order_form select_form x
 
   abbrev pub select : Select → Meaning
-  select x = fold-Select Meaning Meaning KeyMeaning NamedMeaning (List KeyMeaning) Meaning (form m w) filter_form key_form named_form order_form select_form x
+  select x =
+      fold-Select Meaning Meaning KeyMeaning NamedMeaning (List KeyMeaning) Meaning
+      (form m w) filter_form key_form named_form order_form select_form x
 
 -- the expression with what is defined, each definition with the earlier ones
 abbrev pub defined : List NamedMeaning → Meaning → Meaning

@@ -1,4 +1,5 @@
--- What the operators and functions of queries mean, by the meanings of their operands. The first outcome that is no value decides.
+-- What the operators and functions of queries mean, by the meanings of their operands. The first outcome that is no
+-- value decides.
 use Rattle.std.specs.Prelude.{ℕ, ℤ, pos, Bool, true, false, not, List, [], ◌∷◌}
 use Rattle.std.specs.Ordering.{int_eq}
 use Rattle.qc_data.specs.Kinds.{as_coll}

@@ -48,4 +48,5 @@ pub record FieldType : Type 0 where
 -- the fields behind a row; a label that is no name, or that an earlier field has, is a fault
 abbrev pub row_of : List FieldType → List (List ℕ × Ty) → Result (List (List ℕ × Ty)) ℕ
 row_of [] row = Ok row
-row_of (f ∷ fs) row = cond (is_name f.label && not (is_some (lookup f.label row))) (row_of fs (put f.label f.type row)) (Err f.at)
+row_of (f ∷ fs) row =
+    cond (is_name f.label && not (is_some (lookup f.label row))) (row_of fs (put f.label f.type row)) (Err f.at)
