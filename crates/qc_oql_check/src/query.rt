@@ -8,7 +8,7 @@ ghost use Rattle.qc_oql_tree.specs.Typing as typing;
 use crate::expression::type_of;
 use crate::scope::Scope;
 use qc_oql_tree::{Named, Oql, Query};
-use qc_types::{Schema, Ty};
+use qc_types::{Classes, Schema, Ty};
 use qc_typing::TypeFault;
 use std::alloc::Global;
 
@@ -19,7 +19,7 @@ pub fn check(alloc: Global, schema: &Schema, query: &Query) -> Result<Ty, TypeFa
     ensures value { Checks (typing.query_type schema.now query.now) result }
     ensures sound { IfOk result (λ t. IsSound schema.now query.now t) }
 {
-    let _classes = schema.classes();
+    hand_classes(schema.classes());
     defined(
         alloc,
         schema,
@@ -28,6 +28,9 @@ pub fn check(alloc: Global, schema: &Schema, query: &Query) -> Result<Ty, TypeFa
         &query.body,
     )
 }
+
+// Hands to the proof of `sound` what is known of a schema's classes.
+fn hand_classes(_classes: &Classes) {}
 
 // The type of an expression with what is defined, each definition with the earlier ones.
 fn defined(
