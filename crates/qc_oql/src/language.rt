@@ -1,6 +1,4 @@
 // Typed queries as a language.
-ghost use Rattle.qc_data.specs.Outcome.{bits64, Gives};
-ghost use Rattle.qc_oql_tree.specs.Meaning.{query};
 
 use crate::reading::TypedQuery;
 use qc_data::{Datum, Halt};

@@ -8,8 +8,10 @@ use Rattle.qc_typing.specs.Tables.{unary_type}
 use Rattle.qc_oql_tree.specs.declared.tree.Oql.{Oql}
 use Rattle.qc_oql_tree.specs.declared.tree.Oql.TheVariants as tree
 use Rattle.qc_oql_tree.specs.declared.tree.Oql.TheOpen.{Oql-F, Select-F}
-use Rattle.qc_oql_tree.specs.declared.tree.Oql.TheViews.{roll-Oql, roll-Select, out-Filter, out-Key, out-Named, out-Order, out-Select, the_lemmas}
-use Rattle.qc_oql_tree.specs.declared.tree.Oql.TheFolds.{fold-roll-Oql, fold-roll-Select, fold_out-Filter, fold_out-Key, fold_out-Named, fold_out-Order, map-Oql}
+use Rattle.qc_oql_tree.specs.declared.tree.Oql.TheViews.{roll-Oql, roll-Select, out-Filter, out-Key, out-Named}
+use Rattle.qc_oql_tree.specs.declared.tree.Oql.TheViews.{out-Order, out-Select, the_lemmas}
+use Rattle.qc_oql_tree.specs.declared.tree.Oql.TheFolds.{fold-roll-Oql, fold-roll-Select, fold_out-Filter, fold_out-Key}
+use Rattle.qc_oql_tree.specs.declared.tree.Oql.TheFolds.{fold_out-Named, fold_out-Order, map-Oql}
 use Rattle.qc_oql_tree.specs.declared.tree.Filter.{Filter}
 use Rattle.qc_oql_tree.specs.declared.tree.Key.{Key}
 use Rattle.qc_oql_tree.specs.declared.tree.Named.{Named}
@@ -21,9 +23,12 @@ use Rattle.qc_oql_tree.specs.declared.tree.Constant.{Constant}
 use Rattle.qc_oql_tree.specs.declared.tree.Division.{Division}
 use Rattle.qc_oql_tree.specs.declared.tree.Quantifier.{Quantifier}
 use Rattle.qc_oql_tree.specs.declared.tree.Unary.{Unary}
-use Rattle.qc_oql_tree.specs.FormTypings.{Types, Typing, NamedTyping, FilterTyping, OrderTyping, type_of, type_after, type_of_both, matched_type, chosen_type, quantified_type, collected_type, structured_type, selected_type}
+use Rattle.qc_oql_tree.specs.FormTypings.{Types, Typing, NamedTyping, FilterTyping, OrderTyping, type_of, type_after}
+use Rattle.qc_oql_tree.specs.FormTypings.{type_of_both, matched_type, chosen_type, quantified_type, collected_type}
+use Rattle.qc_oql_tree.specs.FormTypings.{structured_type, selected_type}
 use Rattle.qc_oql_tree.specs.OperatorTypes.{constant_type, one_type, two_type, divided_type, field_type, branded_type}
-use Rattle.qc_oql_tree.specs.Typing.{form_type, filter_typing, key_typing, named_typing, order_typing, select_typing, oql_type, filter_type, key_type, named_type, order_type, select_type}
+use Rattle.qc_oql_tree.specs.Typing.{form_type, filter_typing, key_typing, named_typing, order_typing, select_typing}
+use Rattle.qc_oql_tree.specs.Typing.{oql_type, filter_type, key_type, named_type, order_type, select_type}
 
 module _ (c : SchemaOf) where
   layer : (x : Oql-F Oql Filter Key Named Order Select) (t : Oql) → roll-Oql x ≡ t

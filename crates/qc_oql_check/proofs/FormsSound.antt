@@ -1,5 +1,6 @@
 -- The typings of the forms of expressions are sound where their parts' are.
-use Rattle.std.proofs.Common.{◌≡◌, ℕ, ℤ, Bool, true, false, List, [], ◌∷◌, Option, Some, None, IsTrue, cond, refl, sym, subst}
+use Rattle.std.proofs.Common.{◌≡◌, ℕ, ℤ, Bool, true, false, List, [], ◌∷◌, Option, Some, None, IsTrue, cond, refl, sym}
+use Rattle.std.proofs.Common.{subst}
 use Rattle.std.specs.Prelude.{Result, Ok, Err, option_map, option_and_then}
 use Rattle.qc_data.specs.Kinds.{as_coll, coll_at}
 use Rattle.qc_data.specs.Outcome.{Mode, Outcome, Value, and_then, each}
@@ -30,8 +31,10 @@ use Rattle.qc_typing.specs.Checking.{and_check, or_fault, need}
 use Rattle.qc_typing.specs.Kinds.{when}
 use Rattle.qc_typing.specs.Tables.{unary_type, binary_type}
 use Rattle.qc_typing.specs.Typed.{HasType}
-use Rattle.qc_typing.proofs.Outcomes.{Holds, Typed, holds_then, holds_each, holds_weaker, typed_map, typed_then, typed_when}
-use Rattle.qc_typing.proofs.Values.{Any, At, below_type, bool_holds, coll_layer, make_bool, make_coll, make_unit, nothing_bottom, opened}
+use Rattle.qc_typing.proofs.Outcomes.{Holds, Typed, holds_then, holds_each, holds_weaker, typed_map, typed_then}
+use Rattle.qc_typing.proofs.Outcomes.{typed_when}
+use Rattle.qc_typing.proofs.Values.{Any, At, below_type, bool_holds, coll_layer, make_bool, make_coll, make_unit}
+use Rattle.qc_typing.proofs.Values.{nothing_bottom, opened}
 use Rattle.qc_typing.proofs.UnarySound.{unary_sound}
 use Rattle.qc_typing.proofs.BinarySound.{binary_sound}
 use Rattle.qc_oql_tree.specs.declared.tree.Unary.{Unary}
@@ -42,16 +45,21 @@ use Rattle.qc_oql_tree.specs.declared.tree.Constant.TheVariants.{True, False, Ni
 use Rattle.qc_oql_tree.specs.declared.tree.Division.{Division}
 use Rattle.qc_oql_tree.specs.declared.tree.Quantifier.{Quantifier}
 use Rattle.qc_oql_tree.specs.Bindings.{Bindings, Meaning}
-use Rattle.qc_oql_tree.specs.FormMeanings.{NamedMeaning, constant, bound, matched, truth, chosen, decided, tested, quantified, collected}
-use Rattle.qc_oql_tree.specs.OperatorMeanings.{after, one_value, both, of_two, side_at, by_side, or_else_of, is_some_list, is_divisor, divided, division, branded, branding}
-use Rattle.qc_oql_tree.specs.inner.Pairings.{on_one, at_one, type_at_one, pairing_of, paired, by_pairing, type_by_pairing}
+use Rattle.qc_oql_tree.specs.FormMeanings.{NamedMeaning, constant, bound, matched, truth, chosen, decided, tested}
+use Rattle.qc_oql_tree.specs.FormMeanings.{quantified, collected}
+use Rattle.qc_oql_tree.specs.OperatorMeanings.{after, one_value, both, of_two, side_at, by_side, or_else_of}
+use Rattle.qc_oql_tree.specs.OperatorMeanings.{is_some_list, is_divisor, divided, division, branded, branding}
+use Rattle.qc_oql_tree.specs.inner.Pairings.{on_one, at_one, type_at_one, pairing_of, paired, by_pairing}
+use Rattle.qc_oql_tree.specs.inner.Pairings.{type_by_pairing}
 use Rattle.qc_oql_tree.proofs.Pairings.{one_is, one_type_is, two_is, two_types}
 use Rattle.qc_oql_tree.specs.declared.pairing.Pairing.{Pairing}
 use Rattle.qc_oql_tree.specs.declared.pairing.Pairing.TheVariants as pairing
-use Rattle.qc_oql_tree.specs.FormTypings.{Types, Typing, NamedTyping, type_after, type_of_both, matched_type, chosen_type, quantified_type, collected_type}
+use Rattle.qc_oql_tree.specs.FormTypings.{Types, Typing, NamedTyping, type_after, type_of_both, matched_type}
+use Rattle.qc_oql_tree.specs.FormTypings.{chosen_type, quantified_type, collected_type}
 use Rattle.qc_oql_tree.specs.PartTypes.{members_bound, bound_by, sides_bound, join_all}
 use Rattle.qc_oql_tree.specs.OperatorTypes.{constant_type, one_type, two_type, divided_type, field_type, branded_type}
-use Rattle.qc_oql_check.proofs.Checked.{Checked, Zip, checked_after, checked_chain, checked_each, checked_fault, checked_need, checked_then}
+use Rattle.qc_oql_check.proofs.Checked.{Checked, Zip, checked_after, checked_chain, checked_each, checked_fault}
+use Rattle.qc_oql_check.proofs.Checked.{checked_need, checked_then}
 use Rattle.qc_oql_check.proofs.Scopes.{Agree, Sound, SoundN}
 
 -- ---- a type under a test of the text

@@ -1,5 +1,6 @@
 -- The typings of `select` and of definitions are sound where their parts' are.
-use Rattle.std.proofs.Common.{◌≡◌, ℕ, Bool, true, false, ◌||◌, List, [], ◌∷◌, ◌++◌, map, Option, Some, None, IsTrue, cond, refl, sym}
+use Rattle.std.proofs.Common.{◌≡◌, ℕ, Bool, true, false, ◌||◌, List, [], ◌∷◌, ◌++◌, map, Option, Some, None, IsTrue}
+use Rattle.std.proofs.Common.{cond, refl, sym}
 use Rattle.std.specs.Prelude.{Result, Ok, Err}
 use Rattle.qc_data.specs.Kinds.{as_coll, as_int}
 use Rattle.qc_data.specs.Outcome.{Mode, any_size, Outcome, Value, Halts, and_then, gather, each}
@@ -24,11 +25,15 @@ use Rattle.qc_typing.proofs.Values.{Any, below_type, bool_holds, int_holds, make
 use Rattle.qc_oql_tree.specs.Bindings.{Bindings, Meaning}
 use Rattle.qc_oql_tree.specs.FormMeanings.{NamedMeaning, truth}
 use Rattle.qc_oql_tree.specs.Meaning.{defined}
-use Rattle.qc_oql_tree.specs.SelectMeaning.{KeyMeaning, KeyedRow, source_items, rows_with, extended, rows_from, kept_row, filtered, key_values, keyed, first_value, later_values, are_sortable, keys_cmp, sorted, ordered_by, ordered, distinct_if, selected}
-use Rattle.qc_oql_tree.specs.FormTypings.{Types, Typing, NamedTyping, FilterTyping, OrderTyping, source_type, sources_bound, filter_checked, keys_checked, order_checked, selected_type}
+use Rattle.qc_oql_tree.specs.SelectMeaning.{KeyMeaning, KeyedRow, source_items, rows_with, extended, rows_from}
+use Rattle.qc_oql_tree.specs.SelectMeaning.{kept_row, filtered, key_values, keyed, first_value, later_values}
+use Rattle.qc_oql_tree.specs.SelectMeaning.{are_sortable, keys_cmp, sorted, ordered_by, ordered, distinct_if, selected}
+use Rattle.qc_oql_tree.specs.FormTypings.{Types, Typing, NamedTyping, FilterTyping, OrderTyping, source_type}
+use Rattle.qc_oql_tree.specs.FormTypings.{sources_bound, filter_checked, keys_checked, order_checked, selected_type}
 use Rattle.qc_oql_tree.specs.PartTypes.{bound_by}
 use Rattle.qc_oql_tree.specs.Typing.{defined_type}
-use Rattle.qc_oql_check.proofs.Checked.{Checked, Zip, checked_at, checked_fault, checked_gather, checked_known, checked_map, checked_then, each_zip, zip_through}
+use Rattle.qc_oql_check.proofs.Checked.{Checked, Zip, checked_at, checked_fault, checked_gather, checked_known}
+use Rattle.qc_oql_check.proofs.Checked.{checked_map, checked_then, each_zip, zip_through}
 use Rattle.qc_oql_check.proofs.Scopes.{Agree, Sound, SoundF, SoundK, SoundN, SoundO}
 use Rattle.qc_oql_check.proofs.FormsSound.{bound_typed, truth_holds}
 

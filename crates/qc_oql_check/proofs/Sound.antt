@@ -11,8 +11,12 @@ use Rattle.qc_ops.specs.Texts.{likeness}
 use Rattle.qc_ops.specs.declared.op.Unary.TheVariants as one
 use Rattle.qc_oql_tree.specs.declared.tree.Oql.{Oql}
 use Rattle.qc_oql_tree.specs.declared.tree.Oql.TheOpen.{Oql-F, Filter-F, Key-F, Named-F, Order-F, Select-F}
-use Rattle.qc_oql_tree.specs.declared.tree.Oql.TheViews.{roll-Oql, roll-Filter, roll-Key, roll-Named, roll-Order, roll-Select}
-use Rattle.qc_oql_tree.specs.declared.tree.Oql.TheFolds.{fold-roll-Oql, fold-roll-Filter, fold-roll-Key, fold-roll-Named, fold-roll-Order, fold-roll-Select, map-Oql, map-Filter, map-Key, map-Named, map-Order, map-Select, ind-Oql, ind-Named}
+use Rattle.qc_oql_tree.specs.declared.tree.Oql.TheViews.{roll-Oql, roll-Filter, roll-Key, roll-Named, roll-Order}
+use Rattle.qc_oql_tree.specs.declared.tree.Oql.TheViews.{roll-Select}
+use Rattle.qc_oql_tree.specs.declared.tree.Oql.TheFolds.{fold-roll-Oql, fold-roll-Filter, fold-roll-Key}
+use Rattle.qc_oql_tree.specs.declared.tree.Oql.TheFolds.{fold-roll-Named, fold-roll-Order, fold-roll-Select, map-Oql}
+use Rattle.qc_oql_tree.specs.declared.tree.Oql.TheFolds.{map-Filter, map-Key, map-Named, map-Order, map-Select, ind-Oql}
+use Rattle.qc_oql_tree.specs.declared.tree.Oql.TheFolds.{ind-Named}
 use Rattle.qc_oql_tree.specs.declared.tree.Filter.{Filter}
 use Rattle.qc_oql_tree.specs.declared.tree.Key.{Key}
 use Rattle.qc_oql_tree.specs.declared.tree.Named.{Named}
@@ -27,15 +31,19 @@ use Rattle.qc_oql_tree.specs.Bindings.{Meaning}
 use Rattle.qc_oql_tree.specs.FormMeanings.{NamedMeaning}
 use Rattle.qc_oql_tree.specs.OperatorMeanings.{divided, branded, one_value}
 use Rattle.qc_oql_tree.specs.SelectMeaning.{KeyMeaning}
-use Rattle.qc_oql_tree.specs.Meaning.{form, filter_form, key_form, named_form, order_form, select_form, oql, filter, key, named, order, select, query}
+use Rattle.qc_oql_tree.specs.Meaning.{form, filter_form, key_form, named_form, order_form, select_form, oql, filter}
+use Rattle.qc_oql_tree.specs.Meaning.{key, named, order, select, query}
 use Rattle.qc_oql_tree.proofs.MeaningForms.{select_roll}
 use Rattle.qc_oql_tree.proofs.MeaningLaws.{agrees_query}
 use Rattle.qc_oql_tree.specs.FormTypings.{Typing, NamedTyping, FilterTyping, OrderTyping, selected_type}
 use Rattle.qc_oql_tree.specs.OperatorTypes.{one_type, divided_type, field_type, branded_type}
-use Rattle.qc_oql_tree.specs.Typing.{form_type, filter_typing, key_typing, named_typing, order_typing, select_typing, oql_type, filter_type, key_type, named_type, order_type, select_type, query_type}
+use Rattle.qc_oql_tree.specs.Typing.{form_type, filter_typing, key_typing, named_typing, order_typing, select_typing}
+use Rattle.qc_oql_tree.specs.Typing.{oql_type, filter_type, key_type, named_type, order_type, select_type, query_type}
 use Rattle.qc_oql_check.proofs.Checked.{Checked, Zip, checked_at}
 use Rattle.qc_oql_check.proofs.Scopes.{Sound, SoundF, SoundK, SoundN, SoundO, sound_name}
-use Rattle.qc_oql_check.proofs.FormsSound.{branded_typed, constant_typed, divided_typed, field_typed, like_typed, one_typed, sound_after, sound_chosen, sound_collected, sound_matched, sound_two, sound_quantified}
+use Rattle.qc_oql_check.proofs.FormsSound.{branded_typed, constant_typed, divided_typed, field_typed, like_typed}
+use Rattle.qc_oql_check.proofs.FormsSound.{one_typed, sound_after, sound_chosen, sound_collected, sound_matched}
+use Rattle.qc_oql_check.proofs.FormsSound.{sound_two, sound_quantified}
 use Rattle.qc_oql_check.proofs.StructSound.{sound_structured}
 use Rattle.qc_oql_check.proofs.SelectSound.{Beside, sound_defined, sound_selected}
 

@@ -18,11 +18,15 @@ use Rattle.qc_oql_tree.specs.declared.tree.Quantifier.{Quantifier}
 use Rattle.qc_oql_tree.specs.declared.tree.Unary.{Unary}
 use Rattle.qc_oql_tree.specs.declared.tree.Binary.{Binary}
 use Rattle.qc_oql_tree.specs.Bindings.{Bindings, Meaning}
-use Rattle.qc_oql_tree.specs.FormMeanings.{NamedMeaning, bound, matched, truth, chosen, decided, tested, quantified, collected, field_of, structured}
-use Rattle.qc_oql_tree.specs.OperatorMeanings.{after, one_value, of_two, both, side_at, by_side, or_else, is_divisor, divided, division, name_of, branded, branding}
+use Rattle.qc_oql_tree.specs.FormMeanings.{NamedMeaning, bound, matched, truth, chosen, decided, tested, quantified}
+use Rattle.qc_oql_tree.specs.FormMeanings.{collected, field_of, structured}
+use Rattle.qc_oql_tree.specs.OperatorMeanings.{after, one_value, of_two, both, side_at, by_side, or_else, is_divisor}
+use Rattle.qc_oql_tree.specs.OperatorMeanings.{divided, division, name_of, branded, branding}
 use Rattle.qc_oql_tree.specs.inner.Pairings.{on_one, at_one, pairing_of, by_pairing, paired}
 use Rattle.qc_oql_tree.specs.Meaning.{defined}
-use Rattle.qc_oql_tree.specs.SelectMeaning.{KeyMeaning, KeyedRow, source_items, rows_with, extended, rows_from, kept_row, filtered, key_values, keyed, are_sortable, sorted, ordered_by, ordered, selected}
+use Rattle.qc_oql_tree.specs.SelectMeaning.{KeyMeaning, KeyedRow, source_items, rows_with, extended, rows_from}
+use Rattle.qc_oql_tree.specs.SelectMeaning.{kept_row, filtered, key_values, keyed, are_sortable, sorted, ordered_by}
+use Rattle.qc_oql_tree.specs.SelectMeaning.{ordered, selected}
 use Rattle.qc_oql_tree.specs.declared.pairing.Pairing.{Pairing}
 use Rattle.qc_oql_tree.specs.declared.pairing.Pairing.TheVariants as pairing
 use Rattle.qc_oql_tree.proofs.Pairings.{one_is, two_is}

@@ -9,8 +9,10 @@ use Rattle.qc_types.specs.Schemas.{WorldOf}
 use Rattle.qc_oql_tree.specs.declared.tree.Oql.{Oql}
 use Rattle.qc_oql_tree.specs.declared.tree.Oql.TheVariants as tree
 use Rattle.qc_oql_tree.specs.declared.tree.Oql.TheOpen.{Oql-F, Select-F}
-use Rattle.qc_oql_tree.specs.declared.tree.Oql.TheViews.{roll-Oql, roll-Select, out-Filter, out-Key, out-Named, out-Order, out-Select, the_lemmas}
-use Rattle.qc_oql_tree.specs.declared.tree.Oql.TheFolds.{fold-roll-Oql, fold-roll-Select, fold_out-Filter, fold_out-Key, fold_out-Named, fold_out-Order, map-Oql}
+use Rattle.qc_oql_tree.specs.declared.tree.Oql.TheViews.{roll-Oql, roll-Select, out-Filter, out-Key, out-Named}
+use Rattle.qc_oql_tree.specs.declared.tree.Oql.TheViews.{out-Order, out-Select, the_lemmas}
+use Rattle.qc_oql_tree.specs.declared.tree.Oql.TheFolds.{fold-roll-Oql, fold-roll-Select, fold_out-Filter, fold_out-Key}
+use Rattle.qc_oql_tree.specs.declared.tree.Oql.TheFolds.{fold_out-Named, fold_out-Order, map-Oql}
 use Rattle.qc_oql_tree.specs.declared.tree.Filter.{Filter}
 use Rattle.qc_oql_tree.specs.declared.tree.Key.{Key}
 use Rattle.qc_oql_tree.specs.declared.tree.Named.{Named}
@@ -26,7 +28,8 @@ use Rattle.qc_oql_tree.specs.Bindings.{Bindings, Meaning, value_of}
 use Rattle.qc_oql_tree.specs.FormMeanings.{NamedMeaning, constant, matched, chosen, quantified, collected, structured}
 use Rattle.qc_oql_tree.specs.OperatorMeanings.{after, one_value, of_two, divided, branded}
 use Rattle.qc_oql_tree.specs.SelectMeaning.{KeyMeaning, selected}
-use Rattle.qc_oql_tree.specs.Meaning.{form, filter_form, key_form, named_form, order_form, select_form, oql, filter, key, named, order, select}
+use Rattle.qc_oql_tree.specs.Meaning.{form, filter_form, key_form, named_form, order_form, select_form, oql, filter}
+use Rattle.qc_oql_tree.specs.Meaning.{key, named, order, select}
 
 module _ (m : Mode) (w : WorldOf) where
   layer : (x : Oql-F Oql Filter Key Named Order Select) (t : Oql) → roll-Oql x ≡ t

@@ -8,8 +8,11 @@ use Rattle.qc_ops.specs.Texts.{likeness}
 use Rattle.qc_types.specs.Schemas.{WorldOf}
 use Rattle.qc_oql_tree.specs.declared.tree.Oql.{Oql}
 use Rattle.qc_oql_tree.specs.declared.tree.Oql.TheOpen.{Oql-F, Filter-F, Key-F, Named-F, Order-F, Select-F}
-use Rattle.qc_oql_tree.specs.declared.tree.Oql.TheViews.{roll-Oql, roll-Filter, roll-Key, roll-Named, roll-Order, roll-Select}
-use Rattle.qc_oql_tree.specs.declared.tree.Oql.TheFolds.{fold-roll-Oql, fold-roll-Filter, fold-roll-Key, fold-roll-Named, fold-roll-Order, map-Oql, map-Filter, map-Key, map-Named, map-Order, map-Select, ind-Oql, ind-Named}
+use Rattle.qc_oql_tree.specs.declared.tree.Oql.TheViews.{roll-Oql, roll-Filter, roll-Key, roll-Named, roll-Order}
+use Rattle.qc_oql_tree.specs.declared.tree.Oql.TheViews.{roll-Select}
+use Rattle.qc_oql_tree.specs.declared.tree.Oql.TheFolds.{fold-roll-Oql, fold-roll-Filter, fold-roll-Key}
+use Rattle.qc_oql_tree.specs.declared.tree.Oql.TheFolds.{fold-roll-Named, fold-roll-Order, map-Oql, map-Filter, map-Key}
+use Rattle.qc_oql_tree.specs.declared.tree.Oql.TheFolds.{map-Named, map-Order, map-Select, ind-Oql, ind-Named}
 use Rattle.qc_oql_tree.specs.declared.tree.Filter.{Filter}
 use Rattle.qc_oql_tree.specs.declared.tree.Key.{Key}
 use Rattle.qc_oql_tree.specs.declared.tree.Named.{Named}
@@ -20,9 +23,13 @@ use Rattle.qc_oql_tree.specs.Bindings.{Meaning, value_of}
 use Rattle.qc_oql_tree.specs.FormMeanings.{NamedMeaning}
 use Rattle.qc_oql_tree.specs.OperatorMeanings.{divided, branded, one_value}
 use Rattle.qc_oql_tree.specs.SelectMeaning.{KeyMeaning}
-use Rattle.qc_oql_tree.specs.Meaning.{form, filter_form, key_form, named_form, order_form, select_form, oql, filter, key, named, order, select, query}
+use Rattle.qc_oql_tree.specs.Meaning.{form, filter_form, key_form, named_form, order_form, select_form, oql, filter}
+use Rattle.qc_oql_tree.specs.Meaning.{key, named, order, select, query}
 use Rattle.qc_oql_tree.proofs.MeaningForms.{select_roll}
-use Rattle.qc_oql_tree.proofs.Agreeing.{AgreesM, AgreesN, AgreesK, Zip, Both, agrees_on, agrees_value, agrees_two, agrees_divided, agrees_branded, agrees_matched, agrees_chosen, agrees_quantified, agrees_collected, agrees_structured, agrees_selected, agrees_defined}
+use Rattle.qc_oql_tree.proofs.Agreeing.{AgreesM, AgreesN, AgreesK, Zip, Both, agrees_on, agrees_value, agrees_two}
+use Rattle.qc_oql_tree.proofs.Agreeing.{agrees_divided, agrees_branded, agrees_matched, agrees_chosen}
+use Rattle.qc_oql_tree.proofs.Agreeing.{agrees_quantified, agrees_collected, agrees_structured, agrees_selected}
+use Rattle.qc_oql_tree.proofs.Agreeing.{agrees_defined}
 
 module _ (lo hi : ℤ) (w : WorldOf) where
   -- ---- the claim of each type of the trees

@@ -3,7 +3,8 @@ use Rattle.qc_oql_tree.specs.declared.tree.Oql.TheVariants as tree
 use Rattle.qc_oql_check.specs.inner.Scopes.{types_of}
 use Rattle.qc_oql_check.proofs.Arms.{arm}
 use Rattle.qc_oql_check.proofs.Binding.{bound_more}
-use Rattle.qc_oql_check.proofs.Forms.{layers, oql-Name, oql-Struct, oql-Bag, oql-Unary, oql-Divide, oql-Like, oql-Dot, oql-Brand, oql-Select}
+use Rattle.qc_oql_check.proofs.Forms.{layers, oql-Name, oql-Struct, oql-Bag, oql-Unary, oql-Divide, oql-Like, oql-Dot}
+use Rattle.qc_oql_check.proofs.Forms.{oql-Brand, oql-Select}
 use Rattle.qc_oql_check.proofs.expression.+typing.Goals as goal
 
 pub type_of-returns-in-Name : goal.type_of-returns-in-Name
