@@ -10,7 +10,7 @@ use Rattle.qc_types.specs.Schemas.{SchemaOf}
 use Rattle.qc_oql_tree.specs.declared.tree.Query.{Query}
 use Rattle.qc_oql_tree.specs.Grammar as grammar
 use Rattle.qc_oql_tree.specs.Lexemes.{kind}
-use Rattle.qc_oql_check.specs.Typing.{query_type}
+use Rattle.qc_oql_tree.specs.Typing.{query_type}
 use Rattle.qc_typing.specs.Checking.{Checks}
 use Rattle.qc_typing.specs.declared.fault.TypeFault.{TypeFault}
 use Rattle.qc_typing.specs.declared.fault.TypeFault.TheVariants as type
@@ -23,7 +23,7 @@ use Rattle.qc_oql.proofs.Places.{one_place}
 
 -- ---- tokens
 
-same_words : (bytes : List ℕ) (a b : List Placed) → IsScan Oql bytes a → IsScan Oql bytes b → a ≡ b
+pub same_words : (bytes : List ℕ) (a b : List Placed) → IsScan Oql bytes a → IsScan Oql bytes b → a ≡ b
 same_words bytes a b s t = t.only a s.scanned
 
 -- tokens are not too many and few

@@ -2,6 +2,7 @@
 #![tactic(auto)]
 
 mod fault;
+mod language;
 mod reading;
 
 pub use fault::QueryFault;

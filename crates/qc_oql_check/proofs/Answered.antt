@@ -8,8 +8,8 @@ use Rattle.qc_oql_tree.specs.declared.tree.Query.{Query}
 use Rattle.qc_typing.specs.Checking.{Checks}
 use Rattle.qc_typing.specs.Typed.{IsTyped}
 use Rattle.qc_typing.specs.declared.fault.TypeFault.{TypeFault}
-use Rattle.qc_oql_eval.specs.Meaning.{query}
-use Rattle.qc_oql_check.specs.Typing.{query_type}
+use Rattle.qc_oql_tree.specs.Meaning.{query}
+use Rattle.qc_oql_tree.specs.Typing.{query_type}
 use Rattle.qc_oql_check.proofs.Sound.{query_sound}
 
 -- in each world of the schema

@@ -1,13 +1,14 @@
 -- The sources of a select, each bound for the later ones.
-use Rattle.std.proofs.Common.{◌≡◌, ℕ, suc, ◌+◌, ◌<◌, List, [], ◌∷◌, ◌++◌, length, get_or, drop, map, refl, sym, ap, ◌∙◌, add-one, drop-cons}
+use Rattle.std.proofs.Common.{◌≡◌, ℕ, suc, ◌+◌, ◌<◌, List, [], ◌∷◌, ◌++◌, length, get_or, drop, map, refl, sym, ap, ◌∙◌}
+use Rattle.std.proofs.Common.{add-one, drop-cons}
 use Rattle.std.specs.Prelude.{Ok}
 use Rattle.qc_types.specs.declared.ty.Ty.{Ty}
 use Rattle.qc_types.specs.Schemas.{SchemaOf}
 use Rattle.qc_oql_tree.specs.declared.tree.Named.{Named}
 use Rattle.qc_oql_tree.specs.declared.tree.Oql.TheViews.{out-Named}
-use Rattle.qc_oql_check.specs.Forms.{Types, NamedTyping, source_type, sources_bound}
-use Rattle.qc_oql_check.specs.Scopes.{onto}
-use Rattle.qc_oql_check.specs.Typing.{named_type}
+use Rattle.qc_oql_tree.specs.FormTypings.{Types, NamedTyping, source_type, sources_bound}
+use Rattle.qc_oql_check.specs.inner.Scopes.{onto}
+use Rattle.qc_oql_tree.specs.Typing.{named_type}
 use Rattle.qc_oql_check.proofs.Forms.{named_name}
 
 -- the last binding of a row is the newest

@@ -1,5 +1,6 @@
 -- Outcomes against what checks of trees give, one step after another.
-use Rattle.std.proofs.Common.{◌≡◌, ℕ, Bool, true, false, List, [], ◌∷◌, ◌++◌, Option, Some, None, IsTrue, refl, ap, ◌∙◌, subst}
+use Rattle.std.proofs.Common.{◌≡◌, ℕ, Bool, true, false, List, [], ◌∷◌, ◌++◌, Option, Some, None, IsTrue, refl, ap, ◌∙◌}
+use Rattle.std.proofs.Common.{subst}
 use Rattle.std.specs.Prelude.{Result, Ok, Err}
 use Rattle.qc_data.specs.Outcome.{Mode, Outcome, Value, and_then, gather, each, alone}
 use Rattle.qc_types.proofs.Inductions.{AllOf}

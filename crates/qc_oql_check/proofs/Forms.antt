@@ -8,8 +8,10 @@ use Rattle.qc_typing.specs.Tables.{unary_type}
 use Rattle.qc_oql_tree.specs.declared.tree.Oql.{Oql}
 use Rattle.qc_oql_tree.specs.declared.tree.Oql.TheVariants as tree
 use Rattle.qc_oql_tree.specs.declared.tree.Oql.TheOpen.{Oql-F, Select-F}
-use Rattle.qc_oql_tree.specs.declared.tree.Oql.TheViews.{roll-Oql, roll-Select, out-Filter, out-Key, out-Named, out-Order, out-Select, the_lemmas}
-use Rattle.qc_oql_tree.specs.declared.tree.Oql.TheFolds.{fold-roll-Oql, fold-roll-Select, fold_out-Filter, fold_out-Key, fold_out-Named, fold_out-Order, map-Oql}
+use Rattle.qc_oql_tree.specs.declared.tree.Oql.TheViews.{roll-Oql, roll-Select, out-Filter, out-Key, out-Named}
+use Rattle.qc_oql_tree.specs.declared.tree.Oql.TheViews.{out-Order, out-Select, the_lemmas}
+use Rattle.qc_oql_tree.specs.declared.tree.Oql.TheFolds.{fold-roll-Oql, fold-roll-Select, fold_out-Filter, fold_out-Key}
+use Rattle.qc_oql_tree.specs.declared.tree.Oql.TheFolds.{fold_out-Named, fold_out-Order, map-Oql}
 use Rattle.qc_oql_tree.specs.declared.tree.Filter.{Filter}
 use Rattle.qc_oql_tree.specs.declared.tree.Key.{Key}
 use Rattle.qc_oql_tree.specs.declared.tree.Named.{Named}
@@ -21,10 +23,12 @@ use Rattle.qc_oql_tree.specs.declared.tree.Constant.{Constant}
 use Rattle.qc_oql_tree.specs.declared.tree.Division.{Division}
 use Rattle.qc_oql_tree.specs.declared.tree.Quantifier.{Quantifier}
 use Rattle.qc_oql_tree.specs.declared.tree.Unary.{Unary}
-use Rattle.qc_oql_eval.specs.Operators.{on_one, pairing_of}
-use Rattle.qc_oql_check.specs.Forms.{Types, Typing, NamedTyping, FilterTyping, OrderTyping, type_of, type_after, type_of_both, matched_type, chosen_type, quantified_type, collected_type, structured_type, selected_type}
-use Rattle.qc_oql_check.specs.Parts.{constant_type, type_at_one, type_by_pairing, divided_type, field_type, branded_type}
-use Rattle.qc_oql_check.specs.Typing.{form_type, filter_typing, key_typing, named_typing, order_typing, select_typing, oql_type, filter_type, key_type, named_type, order_type, select_type}
+use Rattle.qc_oql_tree.specs.FormTypings.{Types, Typing, NamedTyping, FilterTyping, OrderTyping, type_of, type_after}
+use Rattle.qc_oql_tree.specs.FormTypings.{type_of_both, matched_type, chosen_type, quantified_type, collected_type}
+use Rattle.qc_oql_tree.specs.FormTypings.{structured_type, selected_type}
+use Rattle.qc_oql_tree.specs.OperatorTypes.{constant_type, one_type, two_type, divided_type, field_type, branded_type}
+use Rattle.qc_oql_tree.specs.Typing.{form_type, filter_typing, key_typing, named_typing, order_typing, select_typing}
+use Rattle.qc_oql_tree.specs.Typing.{oql_type, filter_type, key_type, named_type, order_type, select_type}
 
 module _ (c : SchemaOf) where
   layer : (x : Oql-F Oql Filter Key Named Order Select) (t : Oql) → roll-Oql x ≡ t
@@ -49,10 +53,10 @@ module _ (c : SchemaOf) where
   pub oql-Bag : (at : ℕ) (members : List Oql) → oql_type c (tree.Bag at members) ≡ collected_type c.classes at (map (oql_type c) members)
   oql-Bag at members = layer (Oql-F.Bag at members) (tree.Bag at members) (search (rules, the_lemmas))
 
-  pub oql-Unary : (at : ℕ) (op : Unary) (a : Oql) → oql_type c (tree.Unary at op a) ≡ type_after at (type_at_one c.classes (on_one op)) (oql_type c a)
+  pub oql-Unary : (at : ℕ) (op : Unary) (a : Oql) → oql_type c (tree.Unary at op a) ≡ type_after at (one_type c.classes op) (oql_type c a)
   oql-Unary at op a = layer (Oql-F.Unary at op a) (tree.Unary at op a) (search (rules, the_lemmas))
 
-  pub oql-Binary : (at : ℕ) (op : Binary) (a b : Oql) → oql_type c (tree.Binary at op a b) ≡ type_of_both at (type_by_pairing c.classes (pairing_of op)) (oql_type c a) (oql_type c b)
+  pub oql-Binary : (at : ℕ) (op : Binary) (a b : Oql) → oql_type c (tree.Binary at op a b) ≡ type_of_both at (two_type c.classes op) (oql_type c a) (oql_type c b)
   oql-Binary at op a b = layer (Oql-F.Binary at op a b) (tree.Binary at op a b) (search (rules, the_lemmas))
 
   pub oql-Divide : (at : ℕ) (d : Division) (a : Oql) (k : ℤ) → oql_type c (tree.Divide at d a k) ≡ type_after at (divided_type c.classes d k) (oql_type c a)

@@ -1,5 +1,6 @@
 -- The typings of the forms of expressions are sound where their parts' are.
-use Rattle.std.proofs.Common.{◌≡◌, ℕ, ℤ, Bool, true, false, List, [], ◌∷◌, Option, Some, None, IsTrue, cond, refl, sym, subst}
+use Rattle.std.proofs.Common.{◌≡◌, ℕ, ℤ, Bool, true, false, List, [], ◌∷◌, Option, Some, None, IsTrue, cond, refl, sym}
+use Rattle.std.proofs.Common.{subst}
 use Rattle.std.specs.Prelude.{Result, Ok, Err, option_map, option_and_then}
 use Rattle.qc_data.specs.Kinds.{as_coll, coll_at}
 use Rattle.qc_data.specs.Outcome.{Mode, Outcome, Value, and_then, each}
@@ -30,23 +31,35 @@ use Rattle.qc_typing.specs.Checking.{and_check, or_fault, need}
 use Rattle.qc_typing.specs.Kinds.{when}
 use Rattle.qc_typing.specs.Tables.{unary_type, binary_type}
 use Rattle.qc_typing.specs.Typed.{HasType}
-use Rattle.qc_typing.proofs.Outcomes.{Holds, Typed, holds_then, holds_each, holds_weaker, typed_map, typed_then, typed_when}
-use Rattle.qc_typing.proofs.Values.{Any, At, below_type, bool_holds, coll_layer, make_bool, make_coll, make_unit, nothing_bottom, opened}
+use Rattle.qc_typing.proofs.Outcomes.{Holds, Typed, holds_then, holds_each, holds_weaker, typed_map, typed_then}
+use Rattle.qc_typing.proofs.Outcomes.{typed_when}
+use Rattle.qc_typing.proofs.Values.{Any, At, below_type, bool_holds, coll_layer, make_bool, make_coll, make_unit}
+use Rattle.qc_typing.proofs.Values.{nothing_bottom, opened}
 use Rattle.qc_typing.proofs.UnarySound.{unary_sound}
 use Rattle.qc_typing.proofs.BinarySound.{binary_sound}
+use Rattle.qc_oql_tree.specs.declared.tree.Unary.{Unary}
+use Rattle.qc_oql_tree.specs.declared.tree.Binary.{Binary}
 use Rattle.qc_oql_tree.specs.declared.tree.Branding.{Branding}
 use Rattle.qc_oql_tree.specs.declared.tree.Constant.{Constant}
 use Rattle.qc_oql_tree.specs.declared.tree.Constant.TheVariants.{True, False, Nil}
 use Rattle.qc_oql_tree.specs.declared.tree.Division.{Division}
 use Rattle.qc_oql_tree.specs.declared.tree.Quantifier.{Quantifier}
-use Rattle.qc_oql_eval.specs.Bindings.{Bindings, Meaning}
-use Rattle.qc_oql_eval.specs.Forms.{NamedMeaning, constant, after, both, side_at, by_side, or_else_of, by_pairing, bound, matched, truth, chosen, decided, tested, quantified, collected}
-use Rattle.qc_oql_eval.specs.Operators.{at_one, is_some_list, paired, is_divisor, divided, division, branded, branding}
-use Rattle.qc_oql_eval.specs.declared.operators.Pairing.{Pairing}
-use Rattle.qc_oql_eval.specs.declared.operators.Pairing.TheVariants as pairing
-use Rattle.qc_oql_check.specs.Forms.{Types, Typing, NamedTyping, type_after, type_of_both, matched_type, chosen_type, quantified_type, collected_type}
-use Rattle.qc_oql_check.specs.Parts.{members_bound, bound_by, sides_bound, constant_type, type_at_one, type_by_pairing, divided_type, field_type, branded_type, join_all}
-use Rattle.qc_oql_check.proofs.Checked.{Checked, Zip, checked_after, checked_chain, checked_each, checked_fault, checked_need, checked_then}
+use Rattle.qc_oql_tree.specs.Bindings.{Bindings, Meaning}
+use Rattle.qc_oql_tree.specs.FormMeanings.{NamedMeaning, constant, bound, matched, truth, chosen, decided, tested}
+use Rattle.qc_oql_tree.specs.FormMeanings.{quantified, collected}
+use Rattle.qc_oql_tree.specs.OperatorMeanings.{after, one_value, both, of_two, side_at, by_side, or_else_of}
+use Rattle.qc_oql_tree.specs.OperatorMeanings.{is_some_list, is_divisor, divided, division, branded, branding}
+use Rattle.qc_oql_tree.specs.inner.Pairings.{on_one, at_one, type_at_one, pairing_of, paired, by_pairing}
+use Rattle.qc_oql_tree.specs.inner.Pairings.{type_by_pairing}
+use Rattle.qc_oql_tree.proofs.Pairings.{one_is, one_type_is, two_is, two_types}
+use Rattle.qc_oql_tree.specs.declared.pairing.Pairing.{Pairing}
+use Rattle.qc_oql_tree.specs.declared.pairing.Pairing.TheVariants as pairing
+use Rattle.qc_oql_tree.specs.FormTypings.{Types, Typing, NamedTyping, type_after, type_of_both, matched_type}
+use Rattle.qc_oql_tree.specs.FormTypings.{chosen_type, quantified_type, collected_type}
+use Rattle.qc_oql_tree.specs.PartTypes.{members_bound, bound_by, sides_bound, join_all}
+use Rattle.qc_oql_tree.specs.OperatorTypes.{constant_type, one_type, two_type, divided_type, field_type, branded_type}
+use Rattle.qc_oql_check.proofs.Checked.{Checked, Zip, checked_after, checked_chain, checked_each, checked_fault}
+use Rattle.qc_oql_check.proofs.Checked.{checked_need, checked_then}
 use Rattle.qc_oql_check.proofs.Scopes.{Agree, Sound, SoundN}
 
 -- ---- a type under a test of the text
@@ -83,9 +96,12 @@ module _ (c : Defs) (g : IsTrue (good_classes c)) (m : Mode) where
   pub bound_typed : (t : Ty) (v : Datum) → HasType c v t → Typed m (λ xs t. AllOf (λ d. HasType c d t) xs) (bound_by t) (as_coll v)
   bound_typed t v h = bound_layer (out-Datum v) (out-Ty t) (opened c v t h)
 
-  pub one_typed : (op : Option OnOne) (t : Ty) (v : Datum) → HasType c v t → Typed m (HasType c) (type_at_one c op t) (at_one m c op v)
-  one_typed None t v h = typed_map m (λ xs t. AllOf (λ d. HasType c d t) xs) (HasType c) (bound_by t) (as_coll v) (λ u. ty.Bool) (λ xs. Value (datum.Bool (is_some_list xs))) (bound_typed t v h) (λ u xs k. make_bool c (is_some_list xs))
-  one_typed (Some op) t v h = unary_sound c g m op t v h
+  at_one_typed : (op : Option OnOne) (t : Ty) (v : Datum) → HasType c v t → Typed m (HasType c) (type_at_one c op t) (at_one m c op v)
+  at_one_typed None t v h = typed_map m (λ xs t. AllOf (λ d. HasType c d t) xs) (HasType c) (bound_by t) (as_coll v) (λ u. ty.Bool) (λ xs. Value (datum.Bool (is_some_list xs))) (bound_typed t v h) (λ u xs k. make_bool c (is_some_list xs))
+  at_one_typed (Some op) t v h = unary_sound c g m op t v h
+
+  pub one_typed : (op : Unary) (t : Ty) (v : Datum) → HasType c v t → Typed m (HasType c) (one_type c op t) (one_value m c op v)
+  one_typed op t v h = rw (one_type_is c op t, one_is m c op v) (at_one_typed (on_one op) t v h)
 
   pub divided_typed : (d : Division) (k : ℤ) (t : Ty) (v : Datum) → HasType c v t → Typed m (HasType c) (divided_type c d k t) (divided m c d k v)
   divided_typed d k t v h = only_typed m (HasType c) (is_divisor k) (unary_type c (division d k) t) (unary m c (division d k) v) (unary_sound c g m (division d k) t v h)
@@ -134,10 +150,13 @@ module _ (c : Defs) (g : IsTrue (good_classes c)) (m : Mode) where
   else_checked at (Err x) o t v h k = tt
   else_checked at (Ok u) o t v h k = checked_fault m (HasType c) at (type_by_pairing c None t u) (by_side (λ d. Value d) (λ d. o) v) (else_layer u o h (out-Datum v) (out-Ty t) (opened c v t k))
 
-  pub sound_pairing : (at : ℕ) (p : Option Pairing) (a b : Typing) (x y : Meaning) → Sound c m a x → Sound c m b y → Sound c m (type_of_both at (type_by_pairing c p) a b) (by_pairing m p x y)
+  sound_pairing : (at : ℕ) (p : Option Pairing) (a b : Typing) (x y : Meaning) → Sound c m a x → Sound c m b y → Sound c m (type_of_both at (type_by_pairing c p) a b) (by_pairing m p x y)
   sound_pairing at None a b x y h k s e i =
       checked_then m (HasType c) (HasType c) (a e) (x s) (λ t. and_check (b e) (λ u. or_fault at (type_by_pairing c None t u))) (or_else_of y s) (h s e i) (λ t v j. else_checked at (b e) (y s) t v (k s e i) j)
   sound_pairing at (Some p) a b x y h k s e i = sound_both at (type_by_pairing c (Some p)) (paired m p) a b x y (paired_typed p) h k s e i
+
+  pub sound_two : (at : ℕ) (op : Binary) (a b : Typing) (x y : Meaning) → Sound c m a x → Sound c m b y → Sound c m (type_of_both at (two_type c op) a b) (of_two m op x y)
+  sound_two at op a b x y h k s e i = rw (two_types c op, two_is m op x y s) (sound_pairing at (pairing_of op) a b x y h k s e i)
 
   -- ---- match
 

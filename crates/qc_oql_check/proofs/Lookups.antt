@@ -4,9 +4,9 @@ use Rattle.std.specs.Prelude.{Option, Some, None}
 use Rattle.std.specs.Str.{bytes_eq}
 use Rattle.qc_data.specs.Pairs.{lookup}
 use Rattle.qc_types.specs.declared.ty.Ty.{Ty}
-use Rattle.qc_oql_eval.specs.Bindings.{or_else_some}
-use Rattle.qc_oql_check.specs.Forms.{Types}
-use Rattle.qc_oql_check.specs.Scopes.{onto}
+use Rattle.qc_oql_tree.specs.Bindings.{or_else_some}
+use Rattle.qc_oql_tree.specs.FormTypings.{Types}
+use Rattle.qc_oql_check.specs.inner.Scopes.{onto}
 
 -- what is found in a row, after what was found before
 abbrev pub newest : List ℕ → Option Ty → Types → Option Ty

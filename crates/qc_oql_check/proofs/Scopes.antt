@@ -11,10 +11,10 @@ use Rattle.qc_types.specs.Schemas.{SchemaOf, WorldOf, global, is_world}
 use Rattle.qc_typing.specs.Checking.{or_fault}
 use Rattle.qc_typing.specs.Typed.{HasType}
 use Rattle.qc_typing.proofs.WorldValues.{global_typed, world_typed}
-use Rattle.qc_oql_eval.specs.Bindings.{Bindings, Meaning, or_else_some, value_of}
-use Rattle.qc_oql_eval.specs.Forms.{NamedMeaning}
-use Rattle.qc_oql_eval.specs.Selecting.{KeyMeaning}
-use Rattle.qc_oql_check.specs.Forms.{Types, Typing, NamedTyping, FilterTyping, OrderTyping, type_of}
+use Rattle.qc_oql_tree.specs.Bindings.{Bindings, Meaning, or_else_some, value_of}
+use Rattle.qc_oql_tree.specs.FormMeanings.{NamedMeaning}
+use Rattle.qc_oql_tree.specs.SelectMeaning.{KeyMeaning}
+use Rattle.qc_oql_tree.specs.FormTypings.{Types, Typing, NamedTyping, FilterTyping, OrderTyping, type_of}
 use Rattle.qc_oql_check.proofs.Checked.{Checked, Zip}
 
 -- one name, with a value of the type

@@ -1,5 +1,6 @@
 -- The typings of `select` and of definitions are sound where their parts' are.
-use Rattle.std.proofs.Common.{◌≡◌, ℕ, suc, Bool, true, false, ◌||◌, List, [], ◌∷◌, ◌++◌, map, Option, Some, None, IsTrue, cond, refl, sym}
+use Rattle.std.proofs.Common.{◌≡◌, ℕ, Bool, true, false, ◌||◌, List, [], ◌∷◌, ◌++◌, map, Option, Some, None, IsTrue}
+use Rattle.std.proofs.Common.{cond, refl, sym}
 use Rattle.std.specs.Prelude.{Result, Ok, Err}
 use Rattle.qc_data.specs.Kinds.{as_coll, as_int}
 use Rattle.qc_data.specs.Outcome.{Mode, any_size, Outcome, Value, Halts, and_then, gather, each}
@@ -17,18 +18,22 @@ use Rattle.qc_ops.specs.Sorting.{has_value, one_kind}
 use Rattle.qc_typing.specs.Checking.{and_check, or_fault, need}
 use Rattle.qc_typing.specs.Rows.{is_atom}
 use Rattle.qc_typing.specs.Typed.{HasType}
-use Rattle.qc_typing.proofs.Outcomes.{Holds, all_to, holds_each, holds_then}
+use Rattle.qc_typing.proofs.Outcomes.{Holds, holds_each, holds_then}
 use Rattle.qc_typing.proofs.BagValues.{firsts_all, map_all, pass_all, sort_all}
 use Rattle.qc_typing.proofs.RecordValues.{holds_if}
 use Rattle.qc_typing.proofs.Values.{Any, below_type, bool_holds, int_holds, make_coll, text_holds}
-use Rattle.qc_oql_eval.specs.Bindings.{Bindings, Meaning}
-use Rattle.qc_oql_eval.specs.Forms.{NamedMeaning, truth}
-use Rattle.qc_oql_eval.specs.Meaning.{defined}
-use Rattle.qc_oql_eval.specs.Selecting.{KeyMeaning, KeyedRow, source_items, rows_with, extended, rows_from, kept_row, filtered, key_values, keyed, value_at, are_sortable, keys_cmp, sorted, ordered_by, ordered, distinct_if, selected}
-use Rattle.qc_oql_check.specs.Forms.{Types, Typing, NamedTyping, FilterTyping, OrderTyping, source_type, sources_bound, filter_checked, keys_checked, order_checked, selected_type}
-use Rattle.qc_oql_check.specs.Parts.{bound_by}
-use Rattle.qc_oql_check.specs.Typing.{defined_type}
-use Rattle.qc_oql_check.proofs.Checked.{Checked, Zip, checked_at, checked_fault, checked_gather, checked_known, checked_map, checked_then, each_zip, zip_through}
+use Rattle.qc_oql_tree.specs.Bindings.{Bindings, Meaning}
+use Rattle.qc_oql_tree.specs.FormMeanings.{NamedMeaning, truth}
+use Rattle.qc_oql_tree.specs.Meaning.{defined}
+use Rattle.qc_oql_tree.specs.SelectMeaning.{KeyMeaning, KeyedRow, source_items, rows_with, extended, rows_from}
+use Rattle.qc_oql_tree.specs.SelectMeaning.{kept_row, filtered, key_values, keyed, first_value, later_values}
+use Rattle.qc_oql_tree.specs.SelectMeaning.{are_sortable, keys_cmp, sorted, ordered_by, ordered, distinct_if, selected}
+use Rattle.qc_oql_tree.specs.FormTypings.{Types, Typing, NamedTyping, FilterTyping, OrderTyping, source_type}
+use Rattle.qc_oql_tree.specs.FormTypings.{sources_bound, filter_checked, keys_checked, order_checked, selected_type}
+use Rattle.qc_oql_tree.specs.PartTypes.{bound_by}
+use Rattle.qc_oql_tree.specs.Typing.{defined_type}
+use Rattle.qc_oql_check.proofs.Checked.{Checked, Zip, checked_at, checked_fault, checked_gather, checked_known}
+use Rattle.qc_oql_check.proofs.Checked.{checked_map, checked_then, each_zip, zip_through}
 use Rattle.qc_oql_check.proofs.Scopes.{Agree, Sound, SoundF, SoundK, SoundN, SoundO}
 use Rattle.qc_oql_check.proofs.FormsSound.{bound_typed, truth_holds}
 
@@ -128,28 +133,22 @@ module _ (c : Defs) (g : IsTrue (good_classes c)) (m : Mode) where
   atoms_one_kind : (u : Ty) (ds : List Datum) → IsTrue (is_atom c u) → AllOf (λ d. HasType c d u) ds → IsTrue (one_kind ds)
   atoms_one_kind u ds e h = kinds u ds (sub c u ty.Int) (sub c u ty.Text) (sub c u ty.Bool) refl refl refl e h
 
-  -- from place i on, values of the types
-  abbrev From : ℕ → List Ty → List Datum → Type 0
-  From i [] ds = Unit {0}
-  From i (t ∷ ts) ds = HasType c (value_at i ds) t × From (suc i) ts ds
+  first_typed : (t : Ty) (ts : List Ty) (ds : List Datum) → Zip (HasType c) ds (t ∷ ts) → HasType c (first_value ds) t
+  first_typed t ts [] z = absurd z
+  first_typed t ts (d ∷ ds) z = z.0
 
-  from_behind : (i : ℕ) (ts : List Ty) (d : Datum) (ds : List Datum) → From i ts ds → From (suc i) ts (d ∷ ds)
-  from_behind i [] d ds h = tt
-  from_behind i (t ∷ ts) d ds h = (h.0, from_behind (suc i) ts d ds h.1)
+  later_typed : (t : Ty) (ts : List Ty) (ds : List Datum) → Zip (HasType c) ds (t ∷ ts) → Zip (HasType c) (later_values ds) ts
+  later_typed t ts [] z = absurd z
+  later_typed t ts (d ∷ ds) z = z.1
 
-  from_first : (ds : List Datum) (ts : List Ty) → Zip (HasType c) ds ts → From 0 ts ds
-  from_first [] [] z = tt
-  from_first [] (t ∷ ts) z = absurd z
-  from_first (d ∷ ds) [] z = absurd z
-  from_first (d ∷ ds) (t ∷ ts) z = (z.0, from_behind 0 ts d ds (from_first ds ts z.1))
-
-  sortable : (i : ℕ) (keys : List KeyMeaning) (ts : List Ty) (rows : List KeyedRow) → Zip (λ k t. IsTrue (is_atom c t)) keys ts → AllOf (λ row. From i ts row.0) rows → IsTrue (are_sortable i (map (λ key. key.1) keys) rows)
-  sortable i [] ts rows z h = refl
-  sortable i (k ∷ keys) [] rows z h = absurd z
-  sortable i (k ∷ keys) (t ∷ ts) rows z h =
-      both (one_kind (map (λ row. value_at i row.0) rows)) (are_sortable (suc i) (map (λ key. key.1) keys) rows)
-      (atoms_one_kind t (map (λ row. value_at i row.0) rows) z.0 (map_all (λ row. From i (t ∷ ts) row.0) (λ d. HasType c d t) (λ row. value_at i row.0) rows (λ row k. k.0) h))
-      (sortable (suc i) keys ts rows z.1 (all_to (λ (row : KeyedRow). From i (t ∷ ts) row.0) (λ (row : KeyedRow). From (suc i) ts row.0) rows (λ row k. k.1) h))
+  sortable : (keys : List KeyMeaning) (ts : List Ty) (rows : List (List Datum)) → Zip (λ k t. IsTrue (is_atom c t)) keys ts → AllOf (λ ds. Zip (HasType c) ds ts) rows
+      → IsTrue (are_sortable (map (λ key. key.1) keys) rows)
+  sortable [] ts rows z h = refl
+  sortable (k ∷ keys) [] rows z h = absurd z
+  sortable (k ∷ keys) (t ∷ ts) rows z h =
+      both (one_kind (map first_value rows)) (are_sortable (map (λ key. key.1) keys) (map later_values rows))
+      (atoms_one_kind t (map first_value rows) z.0 (map_all (λ ds. Zip (HasType c) ds (t ∷ ts)) (λ d. HasType c d t) first_value rows (first_typed t ts) h))
+      (sortable keys ts (map later_values rows) z.1 (map_all (λ ds. Zip (HasType c) ds (t ∷ ts)) (λ ds. Zip (HasType c) ds ts) later_values rows (later_typed t ts) h))
 
   -- the types of keys, which are atoms
   abbrev Keys : Types → Typing → Ty → Type 0
@@ -180,9 +179,10 @@ module _ (c : Defs) (g : IsTrue (good_classes c)) (m : Mode) where
   unfolding ordered_by
   ordered_holds fs ks ts s e rows z k all =
       holds_then m (AllOf (KeyedBy s e ts)) (AllOf (Row s e)) (each (keyed ks s) rows) _ (holds_each m (Row s e) (KeyedBy s e ts) (keyed ks s) rows all (λ row i. keyed_holds fs ks ts s e row z k i)) (λ krs h.
-      holds_if m (AllOf (Row s e)) (are_sortable 0 (map (λ key. key.1) ks) krs) (Value (map (λ row. row.1) (sorted (map (λ key. key.1) ks) krs)))
-      (sortable 0 ks ts krs (zip_through (SoundK c m) (Keys e) (λ key t. IsTrue (is_atom c t)) fs ks ts (λ f key t i j. j.1) z k) (all_to (KeyedBy s e ts) (λ (row : KeyedRow). From 0 ts row.0) krs (λ row i. from_first row.0 ts i.0) h))
-      (map_all (KeyedBy s e ts) (Row s e) (λ row. row.1) (sorted (map (λ key. key.1) ks) krs) (λ row i. i.1) (sort_all (KeyedBy s e ts) (λ a b. keys_cmp 0 (map (λ key. key.1) ks) a.0 b.0) krs h)))
+      holds_if m (AllOf (Row s e)) (are_sortable (map (λ key. key.1) ks) (map (λ row. row.0) krs)) (Value (map (λ row. row.1) (sorted (map (λ key. key.1) ks) krs)))
+      (sortable ks ts (map (λ row. row.0) krs) (zip_through (SoundK c m) (Keys e) (λ key t. IsTrue (is_atom c t)) fs ks ts (λ f key t i j. j.1) z k)
+      (map_all (KeyedBy s e ts) (λ ds. Zip (HasType c) ds ts) (λ row. row.0) krs (λ row i. i.0) h))
+      (map_all (KeyedBy s e ts) (Row s e) (λ row. row.1) (sorted (map (λ key. key.1) ks) krs) (λ row i. i.1) (sort_all (KeyedBy s e ts) (λ a b. keys_cmp (map (λ key. key.1) ks) a.0 b.0) krs h)))
 
   ordered_checked : (f : Option OrderTyping) (a : Option (List KeyMeaning)) (s : Bindings) (e : Types) (rows : List Bindings) → Beside (SoundO c m) f a → AllOf (Row s e) rows
       → Checked m (λ rows done. AllOf (Row s e) rows) (order_checked c f e) (ordered a s rows)

@@ -11,8 +11,12 @@ use Rattle.qc_ops.specs.Texts.{likeness}
 use Rattle.qc_ops.specs.declared.op.Unary.TheVariants as one
 use Rattle.qc_oql_tree.specs.declared.tree.Oql.{Oql}
 use Rattle.qc_oql_tree.specs.declared.tree.Oql.TheOpen.{Oql-F, Filter-F, Key-F, Named-F, Order-F, Select-F}
-use Rattle.qc_oql_tree.specs.declared.tree.Oql.TheViews.{roll-Oql, roll-Filter, roll-Key, roll-Named, roll-Order, roll-Select}
-use Rattle.qc_oql_tree.specs.declared.tree.Oql.TheFolds.{fold-roll-Oql, fold-roll-Filter, fold-roll-Key, fold-roll-Named, fold-roll-Order, fold-roll-Select, map-Oql, map-Filter, map-Key, map-Named, map-Order, map-Select, ind-Oql, ind-Named}
+use Rattle.qc_oql_tree.specs.declared.tree.Oql.TheViews.{roll-Oql, roll-Filter, roll-Key, roll-Named, roll-Order}
+use Rattle.qc_oql_tree.specs.declared.tree.Oql.TheViews.{roll-Select}
+use Rattle.qc_oql_tree.specs.declared.tree.Oql.TheFolds.{fold-roll-Oql, fold-roll-Filter, fold-roll-Key}
+use Rattle.qc_oql_tree.specs.declared.tree.Oql.TheFolds.{fold-roll-Named, fold-roll-Order, fold-roll-Select, map-Oql}
+use Rattle.qc_oql_tree.specs.declared.tree.Oql.TheFolds.{map-Filter, map-Key, map-Named, map-Order, map-Select, ind-Oql}
+use Rattle.qc_oql_tree.specs.declared.tree.Oql.TheFolds.{ind-Named}
 use Rattle.qc_oql_tree.specs.declared.tree.Filter.{Filter}
 use Rattle.qc_oql_tree.specs.declared.tree.Key.{Key}
 use Rattle.qc_oql_tree.specs.declared.tree.Named.{Named}
@@ -23,19 +27,23 @@ use Rattle.qc_typing.specs.Tables.{unary_type}
 use Rattle.qc_typing.specs.Typed.{HasType, IsTyped}
 use Rattle.qc_typing.proofs.Outcomes.{typed_all}
 use Rattle.qc_typing.proofs.Values.{make_int, make_text}
-use Rattle.qc_oql_eval.specs.Bindings.{Meaning}
-use Rattle.qc_oql_eval.specs.Forms.{NamedMeaning}
-use Rattle.qc_oql_eval.specs.Operators.{on_one, pairing_of, divided, branded, one_value}
-use Rattle.qc_oql_eval.specs.Selecting.{KeyMeaning}
-use Rattle.qc_oql_eval.specs.Meaning.{form, filter_form, key_form, named_form, order_form, select_form, oql, filter, key, named, order, select, query}
-use Rattle.qc_oql_eval.proofs.Forms.{select_roll}
-use Rattle.qc_oql_eval.proofs.Laws.{agrees_query}
-use Rattle.qc_oql_check.specs.Forms.{Typing, NamedTyping, FilterTyping, OrderTyping, selected_type}
-use Rattle.qc_oql_check.specs.Parts.{type_at_one, divided_type, field_type, branded_type}
-use Rattle.qc_oql_check.specs.Typing.{form_type, filter_typing, key_typing, named_typing, order_typing, select_typing, oql_type, filter_type, key_type, named_type, order_type, select_type, query_type}
+use Rattle.qc_oql_tree.specs.Bindings.{Meaning}
+use Rattle.qc_oql_tree.specs.FormMeanings.{NamedMeaning}
+use Rattle.qc_oql_tree.specs.OperatorMeanings.{divided, branded, one_value}
+use Rattle.qc_oql_tree.specs.SelectMeaning.{KeyMeaning}
+use Rattle.qc_oql_tree.specs.Meaning.{form, filter_form, key_form, named_form, order_form, select_form, oql, filter}
+use Rattle.qc_oql_tree.specs.Meaning.{key, named, order, select, query}
+use Rattle.qc_oql_tree.proofs.MeaningForms.{select_roll}
+use Rattle.qc_oql_tree.proofs.MeaningLaws.{agrees_query}
+use Rattle.qc_oql_tree.specs.FormTypings.{Typing, NamedTyping, FilterTyping, OrderTyping, selected_type}
+use Rattle.qc_oql_tree.specs.OperatorTypes.{one_type, divided_type, field_type, branded_type}
+use Rattle.qc_oql_tree.specs.Typing.{form_type, filter_typing, key_typing, named_typing, order_typing, select_typing}
+use Rattle.qc_oql_tree.specs.Typing.{oql_type, filter_type, key_type, named_type, order_type, select_type, query_type}
 use Rattle.qc_oql_check.proofs.Checked.{Checked, Zip, checked_at}
 use Rattle.qc_oql_check.proofs.Scopes.{Sound, SoundF, SoundK, SoundN, SoundO, sound_name}
-use Rattle.qc_oql_check.proofs.FormsSound.{branded_typed, constant_typed, divided_typed, field_typed, like_typed, one_typed, sound_after, sound_chosen, sound_collected, sound_matched, sound_pairing, sound_quantified}
+use Rattle.qc_oql_check.proofs.FormsSound.{branded_typed, constant_typed, divided_typed, field_typed, like_typed}
+use Rattle.qc_oql_check.proofs.FormsSound.{one_typed, sound_after, sound_chosen, sound_collected, sound_matched}
+use Rattle.qc_oql_check.proofs.FormsSound.{sound_two, sound_quantified}
 use Rattle.qc_oql_check.proofs.StructSound.{sound_structured}
 use Rattle.qc_oql_check.proofs.SelectSound.{Beside, sound_defined, sound_selected}
 
@@ -100,8 +108,8 @@ module _ (schema : SchemaOf) (good : IsTrue (good_classes schema.classes)) (d : 
   layer (Oql-F.Constant at k) = λ s e i. constant_typed c good m k
   layer (Oql-F.Struct at fs) = sound_structured c m _ _ (zip_held OfNamed (SoundN c m) (named_type schema) (named m w) (λ x h. h) fs)
   layer (Oql-F.Bag at xs) = sound_collected c good m at _ _ (zip_held OfOql (Sound c m) (oql_type schema) (oql m w) (λ x h. h) xs)
-  layer (Oql-F.Unary at op a) = sound_after c good m at (type_at_one c (on_one op)) (one_value m c op) (oql_type schema a.0) (oql m w a.0) (one_typed c good m (on_one op)) a.1
-  layer (Oql-F.Binary at op a b) = sound_pairing c good m at (pairing_of op) (oql_type schema a.0) (oql_type schema b.0) (oql m w a.0) (oql m w b.0) a.1 b.1
+  layer (Oql-F.Unary at op a) = sound_after c good m at (one_type c op) (one_value m c op) (oql_type schema a.0) (oql m w a.0) (one_typed c good m op) a.1
+  layer (Oql-F.Binary at op a b) = sound_two c good m at op (oql_type schema a.0) (oql_type schema b.0) (oql m w a.0) (oql m w b.0) a.1 b.1
   layer (Oql-F.Divide at q a k) = sound_after c good m at (divided_type c q k) (divided m c q k) (oql_type schema a.0) (oql m w a.0) (divided_typed c good m q k) a.1
   layer (Oql-F.Like at a pattern) = sound_after c good m at (unary_type c (one.Like pattern)) (likeness pattern) (oql_type schema a.0) (oql m w a.0) (like_typed c good m pattern) a.1
   layer (Oql-F.Dot at a label) = sound_after c good m at (field_type c label) (field label) (oql_type schema a.0) (oql m w a.0) (field_typed c good m label) a.1

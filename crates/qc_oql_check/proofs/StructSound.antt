@@ -1,5 +1,6 @@
 -- The typing of `struct` is sound where its fields' are.
-use Rattle.std.proofs.Common.{◌≡◌, ℕ, Bool, true, false, ◌&&◌, List, [], ◌∷◌, Option, Some, None, IsTrue, cond, refl, sym, ap, ◌∙◌, subst}
+use Rattle.std.proofs.Common.{◌≡◌, ℕ, Bool, true, false, ◌&&◌, List, [], ◌∷◌, Option, Some, None, IsTrue, cond, refl}
+use Rattle.std.proofs.Common.{sym, ap, ◌∙◌, subst}
 use Rattle.std.specs.Prelude.{Result, Ok, Err, is_some, not}
 use Rattle.std.specs.Ordering.{is_lt}
 use Rattle.std.specs.Str.{bytes_eq}
@@ -27,11 +28,11 @@ use Rattle.qc_typing.proofs.FieldLaws.{lookup-put, lookup-put_new}
 use Rattle.qc_typing.proofs.RecordValues.{Both, exact_from, holds_if}
 use Rattle.qc_typing.proofs.RisingLaws.{or_else, rising_put_new}
 use Rattle.qc_typing.proofs.Values.{make_rec}
-use Rattle.qc_oql_eval.specs.Bindings.{Bindings}
-use Rattle.qc_oql_eval.specs.Forms.{NamedMeaning, field_of, record_of, structured}
-use Rattle.qc_oql_eval.specs.Operators.{name_of}
-use Rattle.qc_oql_check.specs.Forms.{Types, NamedTyping, typed_field, structured_type}
-use Rattle.qc_oql_check.specs.Parts.{FieldType, row_of}
+use Rattle.qc_oql_tree.specs.Bindings.{Bindings}
+use Rattle.qc_oql_tree.specs.FormMeanings.{NamedMeaning, field_of, record_of, structured}
+use Rattle.qc_oql_tree.specs.OperatorMeanings.{name_of}
+use Rattle.qc_oql_tree.specs.FormTypings.{Types, NamedTyping, typed_field, structured_type}
+use Rattle.qc_oql_tree.specs.PartTypes.{FieldType, row_of}
 use Rattle.qc_oql_check.proofs.Checked.{Zip, checked_at, checked_by, each_ok, each_zip, zip_through, zip_with}
 use Rattle.qc_oql_check.proofs.Scopes.{Agree, Sound, SoundN}
 

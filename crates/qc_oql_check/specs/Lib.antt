@@ -1,5 +1,1 @@
-pub mod Parts
-pub mod Forms
-pub mod Typing
-pub mod Scopes
-pub mod Soundness
+pub mod inner

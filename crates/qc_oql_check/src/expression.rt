@@ -4,19 +4,18 @@ ghost use Rattle.qc_ops.specs.declared.op.Unary.TheVariants as one;
 ghost use Rattle.qc_types.specs.Joins as joining;
 ghost use Rattle.qc_types.specs.Types.{sub};
 ghost use Rattle.qc_types.specs.declared.ty.Ty.TheVariants as ty;
-ghost use Rattle.qc_oql_check.specs.Forms as form;
-ghost use Rattle.qc_oql_check.specs.Parts.{branded_type, divided_type, field_type, sides_of, type_at_one, type_by_pairing};
-ghost use Rattle.qc_oql_check.specs.Scopes.{ChecksAs, field_types, onto, types_of};
-ghost use Rattle.qc_oql_check.specs.Typing as typing;
-ghost use Rattle.qc_oql_eval.specs.Operators.{on_one, pairing_of};
-ghost use Rattle.qc_oql_tree.specs.declared.tree.Oql.TheViews.{out-Select};
+ghost use Rattle.qc_oql_tree.specs.FormTypings as form;
+ghost use Rattle.qc_oql_tree.specs.OperatorTypes.{branded_type, divided_type, field_type, one_type, two_type};
+ghost use Rattle.qc_oql_tree.specs.PartTypes.{sides_of};
+ghost use Rattle.qc_oql_check.specs.inner.Scopes.{ChecksAs, field_types, onto, types_of};
+ghost use Rattle.qc_oql_tree.specs.Typing as typing;
 ghost use Rattle.qc_typing.specs.Checking.{and_check, each_checked, need, or_fault, Checks};
 ghost use Rattle.qc_typing.specs.Kinds.{when};
 ghost use Rattle.qc_typing.specs.Tables.{unary_type};
 
 use crate::faults::{need, or_fault};
 use crate::operators::{
-    branded_type, divided_type, field_type, like_type, type_at_one, type_at_two,
+    branded_type, divided_type, field_type, like_type, one_type, two_type,
 };
 use crate::parts::{bool_when, bound_by, coll_of, constant_type, is_atom, join_all, sides_of};
 use crate::record::{TypedField, row_of};
@@ -93,10 +92,11 @@ fn of_one(
     operator: Unary,
     a: &Oql,
 ) -> Result<Ty, TypeFault>
-    ensures { Checks (form.type_after at (type_at_one schema.now.classes (on_one operator)) (typing.oql_type schema.now a.now) (types_of scope.now)) result }
+    ensures { Checks (form.type_after at (one_type schema.now.classes operator) (typing.oql_type schema.now a.now)
+        (types_of scope.now)) result }
 {
     let x = type_of(alloc, schema, scope, a)?;
-    or_fault(at, type_at_one(alloc, schema.classes(), operator, &x)?)
+    or_fault(at, one_type(alloc, schema.classes(), operator, &x)?)
 }
 
 // An operator of two operands, by the type of the left one.
@@ -110,12 +110,13 @@ fn of_right(
     operator: Binary,
     left: &Ty,
 ) -> Result<Ty, TypeFault>
-    ensures { Checks (and_check (typing.oql_type schema.now b.now (types_of scope.now)) (λ right. or_fault at (type_by_pairing schema.now.classes (pairing_of operator) left.now right))) result }
+    ensures { Checks (and_check (typing.oql_type schema.now b.now (types_of scope.now))
+        (λ right. or_fault at (two_type schema.now.classes operator left.now right))) result }
 {
     let right = type_of(alloc, schema, scope, b)?;
     or_fault(
         at,
-        type_at_two(alloc, schema.classes(), operator, left, &right)?,
+        two_type(alloc, schema.classes(), operator, left, &right)?,
     )
 }
 
@@ -130,7 +131,9 @@ fn of_division(
     a: &Oql,
     k: &i64,
 ) -> Result<Ty, TypeFault>
-    ensures { Checks (form.type_after at (divided_type schema.now.classes division k.now) (typing.oql_type schema.now a.now) (types_of scope.now)) result }
+    ensures { Checks
+        (form.type_after at (divided_type schema.now.classes division k.now) (typing.oql_type schema.now a.now)
+        (types_of scope.now)) result }
 {
     let x = type_of(alloc, schema, scope, a)?;
     or_fault(at, divided_type(alloc, schema.classes(), division, *k, &x)?)
@@ -146,7 +149,9 @@ fn of_like(
     a: &Oql,
     pattern: &Chars,
 ) -> Result<Ty, TypeFault>
-    ensures { Checks (form.type_after at (unary_type schema.now.classes (one.Like pattern.now)) (typing.oql_type schema.now a.now) (types_of scope.now)) result }
+    ensures { Checks
+        (form.type_after at (unary_type schema.now.classes (one.Like pattern.now)) (typing.oql_type schema.now a.now)
+        (types_of scope.now)) result }
 {
     let x = type_of(alloc, schema, scope, a)?;
     or_fault(at, like_type(alloc, schema.classes(), pattern, &x)?)
@@ -162,7 +167,8 @@ fn of_dot(
     a: &Oql,
     label: &Chars,
 ) -> Result<Ty, TypeFault>
-    ensures { Checks (form.type_after at (field_type schema.now.classes label.now) (typing.oql_type schema.now a.now) (types_of scope.now)) result }
+    ensures { Checks (form.type_after at (field_type schema.now.classes label.now) (typing.oql_type schema.now a.now)
+        (types_of scope.now)) result }
 {
     let x = type_of(alloc, schema, scope, a)?;
     or_fault(at, field_type(alloc, schema.classes(), label, &x)?)
@@ -179,7 +185,9 @@ fn of_class(
     class: &Chars,
     a: &Oql,
 ) -> Result<Ty, TypeFault>
-    ensures { Checks (form.type_after at (branded_type schema.now.classes branding class.now) (typing.oql_type schema.now a.now) (types_of scope.now)) result }
+    ensures { Checks
+        (form.type_after at (branded_type schema.now.classes branding class.now) (typing.oql_type schema.now a.now)
+        (types_of scope.now)) result }
 {
     let x = type_of(alloc, schema, scope, a)?;
     or_fault(
@@ -198,7 +206,9 @@ fn left_body(
     at: u32,
     made: &Ty,
 ) -> Result<Ty, TypeFault>
-    ensures { Checks (and_check (or_fault at (sides_of made.now)) (λ sides. (typing.named_type schema.now body.now).of (((typing.named_type schema.now body.now).name, sides.0) ∷ types_of scope.now))) result }
+    ensures { Checks (and_check (or_fault at (sides_of made.now))
+        (λ sides. (typing.named_type schema.now body.now).of
+        (((typing.named_type schema.now body.now).name, sides.0) ∷ types_of scope.now))) result }
 {
     match sides_of(made) {
         Some((left, _)) => bound(alloc, schema, scope, body, left),
@@ -217,7 +227,11 @@ fn right_body(
     made: &Ty,
     first: &Ty,
 ) -> Result<Ty, TypeFault>
-    ensures { Checks (and_check (or_fault at (sides_of made.now)) (λ sides. and_check ((typing.named_type schema.now body.now).of (((typing.named_type schema.now body.now).name, sides.1) ∷ types_of scope.now)) (λ second. or_fault at (joining.join schema.now.classes first.now second)))) result }
+    ensures { Checks (and_check (or_fault at (sides_of made.now))
+        (λ sides. and_check
+        ((typing.named_type schema.now body.now).of
+        (((typing.named_type schema.now body.now).name, sides.1) ∷ types_of scope.now))
+        (λ second. or_fault at (joining.join schema.now.classes first.now second)))) result }
 {
     let Some((_, right)) = sides_of(made) else {
         return Err(TypeFault::BadType { at });
@@ -237,7 +251,9 @@ fn last_branch(
     condition: &Ty,
     first: &Ty,
 ) -> Result<Ty, TypeFault>
-    ensures { Checks (and_check (typing.oql_type schema.now no.now (types_of scope.now)) (λ second. and_check (need at (sub schema.now.classes condition.now ty.Bool)) (λ done. or_fault at (joining.join schema.now.classes first.now second)))) result }
+    ensures { Checks (and_check (typing.oql_type schema.now no.now (types_of scope.now))
+        (λ second. and_check (need at (sub schema.now.classes condition.now ty.Bool))
+        (λ done. or_fault at (joining.join schema.now.classes first.now second)))) result }
 {
     let second = type_of(alloc, schema, scope, no)?;
     branches(alloc, schema.classes(), at, condition, first, &second)
@@ -252,7 +268,8 @@ fn branches(
     first: &Ty,
     second: &Ty,
 ) -> Result<Ty, TypeFault>
-    ensures { Checks (and_check (need at (sub classes.now condition.now ty.Bool)) (λ done. or_fault at (joining.join classes.now first.now second.now))) result }
+    ensures { Checks (and_check (need at (sub classes.now condition.now ty.Bool))
+        (λ done. or_fault at (joining.join classes.now first.now second.now))) result }
 {
     need(at, subtype(classes, condition, &Ty::Bool))?;
     or_fault(at, join(alloc, classes, first, second)?)
@@ -268,7 +285,8 @@ fn bound(
     body: &Named,
     ty: &Ty,
 ) -> Result<Ty, TypeFault>
-    ensures { Checks ((typing.named_type schema.now body.now).of (((typing.named_type schema.now body.now).name, ty.now) ∷ types_of scope.now)) result }
+    ensures { Checks ((typing.named_type schema.now body.now).of
+        (((typing.named_type schema.now body.now).name, ty.now) ∷ types_of scope.now)) result }
 {
     type_of(
         alloc,
@@ -307,7 +325,8 @@ fn holding(
     name: &Chars,
     member: &Ty,
 ) -> Result<Ty, TypeFault>
-    ensures { Checks (and_check (typing.oql_type schema.now test.now ((name.now, member.now) ∷ types_of scope.now)) (λ condition. or_fault at (when (sub schema.now.classes condition ty.Bool) ty.Bool))) result }
+    ensures { Checks (and_check (typing.oql_type schema.now test.now ((name.now, member.now) ∷ types_of scope.now))
+        (λ condition. or_fault at (when (sub schema.now.classes condition ty.Bool) ty.Bool))) result }
 {
     let inner = Scope::Bind(&*name, &*member, &*scope);
     let condition = type_of(alloc, schema, &inner, test)?;
@@ -324,7 +343,9 @@ fn collected(
     at: u32,
     members: &[Oql],
 ) -> Result<Ty, TypeFault>
-    ensures { Checks (form.collected_type schema.now.classes at (map (typing.oql_type schema.now) members.now) (types_of scope.now)) result }
+    ensures { Checks
+        (form.collected_type schema.now.classes at (map (typing.oql_type schema.now) members.now) (types_of scope.now))
+        result }
 {
     let types = member_types(alloc, schema, scope, members)?;
     match join_all(alloc, schema.classes(), types.as_slice())? {
@@ -342,7 +363,8 @@ fn member_types(
     scope: &Scope,
     members: &[Oql],
 ) -> Result<List<Ty>, TypeFault>
-    ensures { Checks (each_checked (λ member. member (types_of scope.now)) (map (typing.oql_type schema.now) members.now)) result }
+    ensures { Checks
+        (each_checked (λ member. member (types_of scope.now)) (map (typing.oql_type schema.now) members.now)) result }
 {
     let mut types = List::new(alloc);
     for member in members {
@@ -359,7 +381,8 @@ fn structured(
     scope: &Scope,
     fields: &[Named],
 ) -> Result<Ty, TypeFault>
-    ensures { Checks (form.structured_type (map (typing.named_type schema.now) fields.now) (types_of scope.now)) result }
+    ensures { Checks
+        (form.structured_type (map (typing.named_type schema.now) fields.now) (types_of scope.now)) result }
 {
     let typed = typed_fields(alloc, schema, scope, fields)?;
     Ok(Ty::Rec(Width::Exact, row_of(alloc, typed.as_slice())?))
@@ -374,7 +397,8 @@ fn typed_fields<'a>(
     scope: &Scope,
     fields: &'a [Named],
 ) -> Result<Vec<TypedField<'a>>, TypeFault>
-    ensures { ChecksAs (λ made. field_types made.items) (each_checked (form.typed_field (types_of scope.now)) (map (typing.named_type schema.now) fields.now)) result }
+    ensures { ChecksAs (λ made. field_types made.items)
+        (each_checked (form.typed_field (types_of scope.now)) (map (typing.named_type schema.now) fields.now)) result }
 {
     let mut typed = Vec::new(alloc);
     for field in fields {
@@ -394,8 +418,9 @@ fn typed_fields<'a>(
 
 // A collection of the values of a select.
 #[cycle(typing)]
+#[tactic(auto, using(crate::proofs::Forms::select_is))]
 fn selected(alloc: Global, schema: &Schema, scope: &Scope, select: &Select) -> Result<Ty, TypeFault>
-    ensures { Checks (form.selected_type schema.now.classes (typing.oql_type schema.now (out-Select select.now).value) (map (typing.named_type schema.now) (out-Select select.now).sources) (option_map (typing.filter_type schema.now) (out-Select select.now).filter) (option_map (typing.order_type schema.now) (out-Select select.now).order) (types_of scope.now)) result }
+    ensures { Checks (typing.select_type schema.now select.now (types_of scope.now)) result }
 {
     let row = bound_row(alloc, schema, scope, select.sources.as_slice())?;
     let inner = Scope::Row(row.as_slice(), &*scope);
@@ -413,7 +438,8 @@ fn bound_row(
     scope: &Scope,
     sources: &[Named],
 ) -> Result<Row, TypeFault>
-    ensures { ChecksAs (λ row. onto row (types_of scope.now)) (form.sources_bound (map (typing.named_type schema.now) sources.now) (types_of scope.now)) result }
+    ensures { ChecksAs (λ row. onto row (types_of scope.now))
+        (form.sources_bound (map (typing.named_type schema.now) sources.now) (types_of scope.now)) result }
 {
     let mut row = Row::new(alloc);
     for source in sources {
@@ -433,7 +459,8 @@ fn filter_checked(
     scope: &Scope,
     filter: &Option<Filter>,
 ) -> Result<(), TypeFault>
-    ensures { Checks (form.filter_checked schema.now.classes (option_map (typing.filter_type schema.now) filter.now) (types_of scope.now)) result }
+    ensures { Checks (form.filter_checked schema.now.classes (option_map (typing.filter_type schema.now) filter.now)
+        (types_of scope.now)) result }
 {
     match filter {
         None => Ok(()),
@@ -453,7 +480,8 @@ fn order_checked(
     scope: &Scope,
     order: &Option<Order>,
 ) -> Result<(), TypeFault>
-    ensures { Checks (form.order_checked schema.now.classes (option_map (typing.order_type schema.now) order.now) (types_of scope.now)) result }
+    ensures { Checks (form.order_checked schema.now.classes (option_map (typing.order_type schema.now) order.now)
+        (types_of scope.now)) result }
 {
     match order {
         None => Ok(()),
@@ -471,7 +499,9 @@ fn keys_checked(
     at: u32,
     keys: &[Key],
 ) -> Result<(), TypeFault>
-    ensures { Checks (form.keys_checked schema.now.classes at (map (typing.key_type schema.now) keys.now) (types_of scope.now)) result }
+    ensures { Checks
+        (form.keys_checked schema.now.classes at (map (typing.key_type schema.now) keys.now) (types_of scope.now))
+        result }
 {
     for key in keys {
         let ty = type_of(alloc, schema, scope, &key.of)?;

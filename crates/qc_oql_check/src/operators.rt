@@ -3,26 +3,25 @@ ghost use Rattle.std.specs.Prelude.{◌≡◌, Some, None, cond, IfOk};
 ghost use Rattle.qc_data.specs.Name.{is_name};
 ghost use Rattle.qc_ops.specs.declared.op.Unary.TheVariants as one;
 ghost use Rattle.qc_typing.specs.Tables.{unary_type};
-ghost use Rattle.qc_oql_eval.specs.Operators.{on_one, pairing_of};
-ghost use Rattle.qc_oql_check.specs.Parts.{branded_type, divided_type, field_type, type_at_one, type_by_pairing};
+ghost use Rattle.qc_oql_tree.specs.OperatorTypes.{branded_type, divided_type, field_type, one_type, two_type};
 
 use crate::parts::{bound_by, sides_of};
 use qc_data::{Chars, Memory, Name, NameFault};
 use qc_ops::{Binary as OnTwo, Divisor, Unary as OnOne};
-use qc_oql_eval::{Pairing, on_one, pairing_of};
-use qc_oql_tree::{Binary, Branding, Division, Unary};
+use qc_oql_tree::{Binary, Branding, Division, Pairing, Unary, on_one, pairing_of};
 use qc_types::{Classes, Ty, join};
 use qc_typing::{type1, type2};
 use std::alloc::Global;
 
 // An operator of one operand.
-pub(crate) fn type_at_one(
+#[tactic(auto, using(qc_oql_tree::proofs::Pairings::one_type_is))]
+pub(crate) fn one_type(
     alloc: Global,
     classes: &Classes,
     operator: Unary,
     a: &Ty,
 ) -> Result<Option<Ty>, Memory>
-    ensures { IfOk result (λ made. made ≡ type_at_one classes.now (on_one operator) a.now) }
+    ensures { IfOk result (λ made. made ≡ one_type classes.now operator a.now) }
 {
     match on_one(operator) {
         Some(operator) => type1(alloc, classes, &operator, a),
@@ -31,14 +30,15 @@ pub(crate) fn type_at_one(
 }
 
 // An operator of two operands.
-pub(crate) fn type_at_two(
+#[tactic(auto, using(qc_oql_tree::proofs::Pairings::two_type_is))]
+pub(crate) fn two_type(
     alloc: Global,
     classes: &Classes,
     operator: Binary,
     a: &Ty,
     b: &Ty,
 ) -> Result<Option<Ty>, Memory>
-    ensures { IfOk result (λ made. made ≡ type_by_pairing classes.now (pairing_of operator) a.now b.now) }
+    ensures { IfOk result (λ made. made ≡ two_type classes.now operator a.now b.now) }
 {
     match pairing_of(operator) {
         Some(Pairing::Plain(operator)) => type2(alloc, classes, &operator, a, b),

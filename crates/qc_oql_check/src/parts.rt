@@ -4,7 +4,8 @@ ghost use Rattle.std.specs.Prelude.{◌≡◌, IfOk, option_map};
 ghost use Rattle.qc_types.specs.declared.ty.Ty.TheVariants as ty;
 ghost use Rattle.qc_typing.specs.Kinds.{when};
 ghost use Rattle.qc_typing.specs.Rows.{is_atom};
-ghost use Rattle.qc_oql_check.specs.Parts.{bound_by, constant_type, join_all, sides_of};
+ghost use Rattle.qc_oql_tree.specs.PartTypes.{bound_by, join_all, sides_of};
+ghost use Rattle.qc_oql_tree.specs.OperatorTypes.{constant_type};
 
 use qc_data::{Boxed, Memory};
 use qc_oql_tree::Constant;

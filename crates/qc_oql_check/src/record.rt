@@ -1,8 +1,8 @@
 // The rows of structs.
 ghost use Rattle.std.specs.Prelude.{[]};
 ghost use Rattle.qc_typing.specs.Checking.{Checks};
-ghost use Rattle.qc_oql_check.specs.Parts.{row_of};
-ghost use Rattle.qc_oql_check.specs.Scopes.{field_types, with_field};
+ghost use Rattle.qc_oql_tree.specs.PartTypes.{row_of};
+ghost use Rattle.qc_oql_check.specs.inner.Scopes.{field_types, with_field};
 
 use crate::operators::name_of;
 use qc_data::Chars;

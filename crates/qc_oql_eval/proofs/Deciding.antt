@@ -3,7 +3,7 @@ use Rattle.std.proofs.Common.{◌≡◌, Bool, true, false, List, [], ◌∷◌,
 use Rattle.qc_data.specs.Outcome.{Outcome, Value, Halts, and_then, alone, each}
 use Rattle.qc_oql_tree.specs.declared.tree.Quantifier.{Quantifier}
 use Rattle.qc_oql_tree.specs.declared.tree.Quantifier.TheVariants.{Exists, ForAll}
-use Rattle.qc_oql_eval.specs.Forms.{decides}
+use Rattle.qc_oql_tree.specs.FormMeanings.{decides}
 
 -- the answer, from that on the members before
 abbrev pub decided_from : {A : Type 0} → Quantifier → Bool → (A → Outcome Bool) → List A → Outcome Bool

@@ -1,8 +1,7 @@
-pub mod Agreeing
 pub mod Arms
+pub mod Columns
 pub mod Deciding
-pub mod Forms
 pub mod KeyOrder
-pub mod Laws
+pub mod Keys
 pub mod Lookups
 pub mod Recording

@@ -3,7 +3,7 @@ use Rattle.std.proofs.Common.{◌≡◌, ℕ, true, false, cond, List, [], ◌�
 use Rattle.std.specs.Prelude.{Some}
 use Rattle.std.specs.Str.{bytes_eq}
 use Rattle.qc_data.specs.Pairs.{lookup}
-use Rattle.qc_oql_eval.specs.Bindings.{or_else_some}
+use Rattle.qc_oql_tree.specs.Bindings.{or_else_some}
 
 -- the first list's value, or else the second's
 pub lookup_append : {T : Type 0} (name : List ℕ) (xs ys : List (List ℕ × T)) → lookup name (xs ++ ys) ≡ or_else_some (lookup name xs) (lookup name ys)

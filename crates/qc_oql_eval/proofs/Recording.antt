@@ -2,7 +2,7 @@
 use Rattle.std.proofs.Common.{◌≡◌, ℕ, List, [], ◌∷◌, ◌++◌, refl, ap}
 use Rattle.qc_data.specs.declared.data.Datum.{Datum}
 use Rattle.qc_ops.specs.Records.{put_new}
-use Rattle.qc_oql_eval.specs.Forms.{record_of}
+use Rattle.qc_oql_tree.specs.FormMeanings.{record_of}
 
 -- the fields before those that are put
 abbrev pub record_onto : List (List ℕ × Datum) → List (List ℕ × Datum) → List (List ℕ × Datum)

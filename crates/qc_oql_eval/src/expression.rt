@@ -3,21 +3,21 @@ ghost use Rattle.std.specs.Prelude.{◌≡◌, map};
 ghost use Rattle.qc_data.specs.Outcome.{bits64, Gives};
 ghost use Rattle.qc_ops.specs.Records.{field};
 ghost use Rattle.qc_ops.specs.Texts.{likeness};
-ghost use Rattle.qc_oql_eval.specs.Bindings.{bindings_of};
-ghost use Rattle.qc_oql_eval.specs.Forms as form;
-ghost use Rattle.qc_oql_eval.specs.Held.{GivesHeld};
-ghost use Rattle.qc_oql_eval.specs.Meaning as meaning;
-ghost use Rattle.qc_oql_eval.specs.Operators.{branded, divided, one_value};
+ghost use Rattle.qc_oql_eval.specs.inner.Scopes.{bindings_of};
+ghost use Rattle.qc_oql_tree.specs.FormMeanings as form;
+ghost use Rattle.qc_oql_eval.specs.inner.Held.{GivesHeld};
+ghost use Rattle.qc_oql_tree.specs.Meaning as meaning;
+ghost use Rattle.qc_oql_tree.specs.OperatorMeanings.{after, branded, divided, of_two, one_value, or_else_of};
 
 use crate::operands::{bool_of, name_of};
-use crate::operators::{branded, divided, field, likeness, one_value, paired, pairing_of};
+use crate::operators::{branded, divided, field, likeness, one_value, paired};
 use crate::paths::{Held, place_of};
 use crate::quantifying::tested;
 use crate::record::record_of;
 use crate::scope::{Scope, value_of};
 use crate::selecting::selected;
 use qc_data::{Chars, Datum, Halt, Items, copy};
-use qc_oql_tree::{Branding, Constant, Division, Named, Oql, Unary};
+use qc_oql_tree::{Binary, Branding, Constant, Division, Named, Oql, Unary, pairing_of};
 use qc_types::World;
 use std::alloc::Global;
 
@@ -35,14 +35,7 @@ pub(crate) fn outcome(alloc: Global, world: &World, scope: &Scope, of: &Oql) -> 
         Oql::Bag(_, members) => collected(alloc, world, scope, members.as_slice()),
         Oql::Unary(_, operator, a) => of_one(alloc, world, scope, *operator, a.get()),
         Oql::Binary(_, operator, a, b) => {
-            let left = outcome(alloc, world, scope, a.get())?;
-            match pairing_of(*operator) {
-                Some(pairing) => {
-                    let right = outcome(alloc, world, scope, b.get())?;
-                    paired(alloc, world.classes(), pairing, &left, &right)
-                }
-                None => or_else(alloc, world, scope, b.get(), &left),
-            }
+            of_two(alloc, world, scope, *operator, a.get(), b.get())
         }
         Oql::Divide(_, division, a, k) => of_division(alloc, world, scope, *division, a.get(), *k),
         Oql::Like(_, a, pattern) => of_like(alloc, world, scope, a.get(), pattern),
@@ -108,7 +101,7 @@ pub(crate) fn operand<'a>(
 
 // The record of the fields.
 #[cycle(eval)]
-#[tactic(auto, using(qc_data::proofs::Outcomes::gather_is, crate::proofs::Forms::named_is))]
+#[tactic(auto, using(qc_data::proofs::Outcomes::gather_is, qc_oql_tree::proofs::MeaningForms::named_is))]
 fn structured(alloc: Global, world: &World, scope: &Scope, fields: &[Named]) -> Result<Datum, Halt>
     ensures { Gives (form.structured (map (meaning.named bits64 world.now) fields.now) (bindings_of scope.now)) result }
 {
@@ -146,10 +139,35 @@ fn of_one(
     operator: Unary,
     a: &Oql,
 ) -> Result<Datum, Halt>
-    ensures { Gives (form.after (one_value bits64 world.now.classes operator) (meaning.oql bits64 world.now a.now) (bindings_of scope.now)) result }
+    ensures { Gives (after (one_value bits64 world.now.classes operator) (meaning.oql bits64 world.now a.now)
+        (bindings_of scope.now)) result }
 {
     let x = operand(alloc, &*world, &*scope, a)?;
     one_value(alloc, world.classes(), operator, x.get())
+}
+
+// An operator of two operands, the left one first.
+#[cycle(eval)]
+#[tactic(auto, using(qc_oql_tree::proofs::Pairings::two_is))]
+fn of_two(
+    alloc: Global,
+    world: &World,
+    scope: &Scope,
+    operator: Binary,
+    a: &Oql,
+    b: &Oql,
+) -> Result<Datum, Halt>
+    ensures { Gives (of_two bits64 operator (meaning.oql bits64 world.now a.now) (meaning.oql bits64 world.now b.now)
+        (bindings_of scope.now)) result }
+{
+    let left = outcome(alloc, world, scope, a)?;
+    match pairing_of(operator) {
+        Some(pairing) => {
+            let right = outcome(alloc, world, scope, b)?;
+            paired(alloc, world.classes(), pairing, &left, &right)
+        }
+        None => or_else(alloc, world, scope, b, &left),
+    }
 }
 
 // The content of a left value, or else the value of the other operand.
@@ -161,7 +179,7 @@ fn or_else(
     other: &Oql,
     first: &Datum,
 ) -> Result<Datum, Halt>
-    ensures { Gives (form.or_else_of (meaning.oql bits64 world.now other.now) (bindings_of scope.now) first.now) result }
+    ensures { Gives (or_else_of (meaning.oql bits64 world.now other.now) (bindings_of scope.now) first.now) result }
 {
     match first {
         Datum::Left(content) => Ok(copy(alloc, content.get())?),
@@ -180,7 +198,8 @@ fn of_division(
     a: &Oql,
     k: i64,
 ) -> Result<Datum, Halt>
-    ensures { Gives (form.after (divided bits64 world.now.classes division k) (meaning.oql bits64 world.now a.now) (bindings_of scope.now)) result }
+    ensures { Gives (after (divided bits64 world.now.classes division k) (meaning.oql bits64 world.now a.now)
+        (bindings_of scope.now)) result }
 {
     let x = operand(alloc, &*world, &*scope, a)?;
     divided(alloc, world.classes(), division, k, x.get())
@@ -195,7 +214,7 @@ fn of_like(
     a: &Oql,
     pattern: &Chars,
 ) -> Result<Datum, Halt>
-    ensures { Gives (form.after (likeness pattern.now) (meaning.oql bits64 world.now a.now) (bindings_of scope.now)) result }
+    ensures { Gives (after (likeness pattern.now) (meaning.oql bits64 world.now a.now) (bindings_of scope.now)) result }
 {
     let x = operand(alloc, &*world, &*scope, a)?;
     likeness(pattern, x.get())
@@ -210,7 +229,7 @@ fn of_dot(
     a: &Oql,
     label: &Chars,
 ) -> Result<Datum, Halt>
-    ensures { Gives (form.after (field label.now) (meaning.oql bits64 world.now a.now) (bindings_of scope.now)) result }
+    ensures { Gives (after (field label.now) (meaning.oql bits64 world.now a.now) (bindings_of scope.now)) result }
 {
     let x = operand(alloc, &*world, &*scope, a)?;
     field(alloc, label, x.get())
@@ -226,7 +245,8 @@ fn of_class(
     class: &Chars,
     a: &Oql,
 ) -> Result<Datum, Halt>
-    ensures { Gives (form.after (branded bits64 world.now.classes branding class.now) (meaning.oql bits64 world.now a.now) (bindings_of scope.now)) result }
+    ensures { Gives (after (branded bits64 world.now.classes branding class.now) (meaning.oql bits64 world.now a.now)
+        (bindings_of scope.now)) result }
 {
     let x = operand(alloc, &*world, &*scope, a)?;
     branded(alloc, world.classes(), branding, class, x.get())
@@ -234,7 +254,7 @@ fn of_class(
 
 // A body with its name bound.
 #[cycle(eval)]
-#[tactic(auto, using(crate::proofs::Forms::named_is))]
+#[tactic(auto, using(qc_oql_tree::proofs::MeaningForms::named_is))]
 fn bound(
     alloc: Global,
     world: &World,
@@ -254,7 +274,7 @@ fn bound(
 
 // The truth value of a condition.
 #[cycle(eval)]
-#[tactic(auto, unfolding(crate::specs::Forms::truth))]
+#[tactic(auto, unfolding(qc_oql_tree::specs::FormMeanings::truth))]
 pub(crate) fn truth(alloc: Global, world: &World, scope: &Scope, test: &Oql) -> Result<bool, Halt>
     ensures { Gives (form.truth (meaning.oql bits64 world.now test.now) (bindings_of scope.now)) result }
 {

@@ -1,4 +1,4 @@
-//! The meaning of OQL, and its evaluator in 64 bits.
+//! The evaluator of OQL queries in 64 bits.
 #![tactic(auto)]
 
 mod expression;
@@ -13,5 +13,4 @@ mod rows;
 mod scope;
 mod selecting;
 
-pub use operators::{Pairing, branding, division, on_one, pairing_of};
 pub use query::eval;

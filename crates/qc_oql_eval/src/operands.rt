@@ -2,7 +2,7 @@
 ghost use Rattle.qc_data.specs.Kinds.{as_coll};
 ghost use Rattle.qc_data.specs.Outcome.{Gives, GivesRef};
 ghost use Rattle.qc_ops.specs.Operands.{as_bool};
-ghost use Rattle.qc_oql_eval.specs.Operators.{name_of};
+ghost use Rattle.qc_oql_tree.specs.OperatorMeanings.{name_of};
 
 use qc_data::{Chars, Datum, Halt, Items, Name, NameFault};
 use std::alloc::Global;

@@ -6,28 +6,19 @@ ghost use Rattle.qc_data.specs.declared.data.Datum.TheVariants.{Coll};
 ghost use Rattle.qc_ops.specs.Operands.{found};
 ghost use Rattle.qc_ops.specs.Records.{field};
 ghost use Rattle.qc_ops.specs.Texts.{likeness};
-ghost use Rattle.qc_oql_eval.specs.Operators.{branded, branding, divided, division, on_one, one_value, paired, pairing_of};
-ghost use Rattle.qc_oql_eval.specs.Selecting.{distinct_if};
+ghost use Rattle.qc_oql_tree.specs.OperatorMeanings.{branded, divided, one_value};
+ghost use Rattle.qc_oql_tree.specs.inner.Pairings.{paired};
+ghost use Rattle.qc_oql_tree.specs.SelectMeaning.{distinct_if};
 
 use crate::operands::{items_of, name_of};
-use qc_data::{Chars, Datum, Halt, Items, Name, copy};
+use qc_data::{Chars, Datum, Halt, Items, copy};
 use qc_ops::{Binary as OnTwo, Divisor, Unary as OnOne, apply1, apply2, like};
-use qc_oql_tree::{Binary, Branding, Division, Unary};
+use qc_oql_tree::{Branding, Division, Pairing, Unary, branding, division, on_one};
 use qc_types::Classes;
 use std::alloc::Global;
 
-/// How an operator of two operands goes back to operators on values.
-#[derive(Clone, Copy)]
-pub enum Pairing {
-    /// The operator itself.
-    Plain(OnTwo),
-    /// The operator with its operands exchanged.
-    Exchanged(OnTwo),
-    /// The negation of `Eq`.
-    Unequal,
-}
-
 // The value of an operator of one operand.
+#[tactic(auto, using(qc_oql_tree::proofs::Pairings::one_is))]
 pub(crate) fn one_value(
     alloc: Global,
     classes: &Classes,
@@ -42,56 +33,6 @@ pub(crate) fn one_value(
             let items = items_of(a)?;
             Ok(Datum::Bool(items.len() > 0))
         }
-    }
-}
-
-/// The operator on one value that an operator of queries is; `exists` is none.
-pub fn on_one(operator: Unary) -> Option<OnOne>
-    ensures { result ≡ on_one operator }
-{
-    match operator {
-        Unary::Not => Some(OnOne::Not),
-        Unary::Neg => Some(OnOne::Neg),
-        Unary::Count => Some(OnOne::Count),
-        Unary::Sum => Some(OnOne::Sum),
-        Unary::Min => Some(OnOne::Min),
-        Unary::Max => Some(OnOne::Max),
-        Unary::Avg => Some(OnOne::Avg),
-        Unary::Element => Some(OnOne::Element),
-        Unary::Flatten => Some(OnOne::Flatten),
-        Unary::Distinct => Some(OnOne::Distinct),
-        Unary::Abs => Some(OnOne::Abs),
-        Unary::Left => Some(OnOne::Left),
-        Unary::Right => Some(OnOne::Right),
-        Unary::Unbrand => Some(OnOne::Unbrand),
-        Unary::Exists => None,
-    }
-}
-
-/// How an operator of two operands goes back to operators on values; `orelse` does not.
-pub fn pairing_of(operator: Binary) -> Option<Pairing>
-    ensures { result ≡ pairing_of operator }
-{
-    match operator {
-        Binary::Or => Some(Pairing::Plain(OnTwo::Or)),
-        Binary::And => Some(Pairing::Plain(OnTwo::And)),
-        Binary::Eq => Some(Pairing::Plain(OnTwo::Eq)),
-        Binary::Ne => Some(Pairing::Unequal),
-        Binary::Lt => Some(Pairing::Plain(OnTwo::Lt)),
-        Binary::Le => Some(Pairing::Plain(OnTwo::Le)),
-        Binary::Gt => Some(Pairing::Exchanged(OnTwo::Lt)),
-        Binary::Ge => Some(Pairing::Exchanged(OnTwo::Le)),
-        Binary::Member => Some(Pairing::Plain(OnTwo::Member)),
-        Binary::Union => Some(Pairing::Plain(OnTwo::Union)),
-        Binary::Except => Some(Pairing::Plain(OnTwo::Except)),
-        Binary::Intersect => Some(Pairing::Plain(OnTwo::Intersect)),
-        Binary::Add => Some(Pairing::Plain(OnTwo::Add)),
-        Binary::Sub => Some(Pairing::Plain(OnTwo::Sub)),
-        Binary::Glue => Some(Pairing::Plain(OnTwo::Glue)),
-        Binary::Mul => Some(Pairing::Plain(OnTwo::Mul)),
-        Binary::OrElse => None,
-        Binary::Least => Some(Pairing::Plain(OnTwo::Least)),
-        Binary::Greatest => Some(Pairing::Plain(OnTwo::Greatest)),
     }
 }
 
@@ -115,16 +56,6 @@ pub(crate) fn paired(
     }
 }
 
-/// The operator on one value that a division by the divisor is.
-pub fn division(operator: Division, divisor: Divisor) -> OnOne
-    ensures { result ≡ division operator divisor }
-{
-    match operator {
-        Division::DivBy => OnOne::DivBy(divisor),
-        Division::ModBy => OnOne::ModBy(divisor),
-    }
-}
-
 // A division by a literal, which must not be 0.
 pub(crate) fn divided(
     alloc: Global,
@@ -138,16 +69,6 @@ pub(crate) fn divided(
     match Divisor::of(k) {
         Some(divisor) => apply1(alloc, classes, &division(operator, divisor), a),
         None => Err(Halt::Stuck),
-    }
-}
-
-/// The operator on one value that a function of the class is.
-pub fn branding(operator: Branding, class: Name) -> OnOne
-    ensures { result ≡ branding operator class }
-{
-    match operator {
-        Branding::Cast => OnOne::Cast(class),
-        Branding::Brand => OnOne::Brand(class),
     }
 }
 

@@ -8,9 +8,10 @@ ghost use Rattle.qc_data.specs.declared.data.Datum.TheVariants.{Unit as Nothing}
 ghost use Rattle.qc_ops.specs.Columns.{behind, GivesRefs};
 ghost use Rattle.qc_ops.specs.Operands.{only_if};
 ghost use Rattle.qc_ops.specs.Sorting.{directed, one_kind};
-ghost use Rattle.qc_oql_eval.specs.Kinds.{is_of};
-ghost use Rattle.qc_oql_eval.specs.Rows.{keyed_rows};
-ghost use Rattle.qc_oql_eval.specs.Selecting.{are_sortable, directions, is_ascending, keys_cmp, sorted, value_at};
+ghost use Rattle.qc_oql_eval.specs.inner.SortKinds.{is_of};
+ghost use Rattle.qc_oql_eval.specs.inner.Rows.{keyed_rows, directions};
+ghost use Rattle.qc_oql_tree.specs.SelectMeaning.{are_sortable, is_ascending, keys_cmp, sorted};
+ghost use Rattle.qc_oql_eval.specs.inner.Columns.{value_at};
 
 use crate::scope::Row;
 use qc_data::{Datum, Halt, List, Memory, cmp};
@@ -41,7 +42,8 @@ pub(crate) fn in_order<'a>(
     keys: &[Key],
     rows: Vec<Keyed<'a>>,
 ) -> Result<Vec<&'a Row>, Halt>
-    ensures { GivesRefs (only_if (are_sortable 0 (directions keys.now) (keyed_rows rows.entry.items)) (Value (map (λ row. row.1) (sorted (directions keys.now) (keyed_rows rows.entry.items))))) result }
+    ensures { GivesRefs (only_if (are_sortable (directions keys.now) (map (λ row. row.0) (keyed_rows rows.entry.items)))
+        (Value (map (λ row. row.1) (sorted (directions keys.now) (keyed_rows rows.entry.items))))) result }
 {
     if !are_sortable(keys, rows.as_slice()) {
         return Err(Halt::Stuck);
@@ -51,8 +53,9 @@ pub(crate) fn in_order<'a>(
 }
 
 // Whether each key's values are of one kind.
+#[tactic(auto, using(crate::proofs::Columns::sortable_from_start))]
 fn are_sortable(keys: &[Key], rows: &[Keyed]) -> bool
-    ensures { result ≡ are_sortable 0 (directions keys.now) (keyed_rows rows.now) }
+    ensures { result ≡ are_sortable (directions keys.now) (map (λ row. row.0) (keyed_rows rows.now)) }
 {
     for (at, _key) in keys.iter().enumerate() {
         if !is_column(at, rows) {
@@ -103,8 +106,9 @@ fn sorted<'a>(keys: &[Key], rows: Vec<Keyed<'a>>) -> Result<Vec<Keyed<'a>>, Memo
 }
 
 // How the values of one row's keys stand to another's.
+#[tactic(auto, using(crate::proofs::Columns::keys_from_start))]
 fn keys_cmp(keys: &[Key], first: &List<Datum>, second: &List<Datum>) -> Ordering
-    ensures { result ≡ keys_cmp 0 (directions keys.now) first.now second.now }
+    ensures { result ≡ keys_cmp (directions keys.now) first.now second.now }
 {
     for (at, key) in keys.iter().enumerate() {
         match directed(key.direction, first.get(at), second.get(at)) {
@@ -117,7 +121,8 @@ fn keys_cmp(keys: &[Key], first: &List<Datum>, second: &List<Datum>) -> Ordering
 
 // How a value stands to another, or the other way round where it is descending.
 fn directed(direction: Direction, first: Option<&Datum>, second: Option<&Datum>) -> Ordering
-    ensures { result ≡ directed (is_ascending direction) (unwrap_or (option_copied first.entry) Nothing) (unwrap_or (option_copied second.entry) Nothing) }
+    ensures { result ≡ directed (is_ascending direction) (unwrap_or (option_copied first.entry) Nothing)
+        (unwrap_or (option_copied second.entry) Nothing) }
 {
     match direction {
         Direction::Asc => value_cmp(first, second),
@@ -128,7 +133,8 @@ fn directed(direction: Direction, first: Option<&Datum>, second: Option<&Datum>)
 // How a value stands to another, where none counts as unit.
 #[tactic(auto, using(qc_ops::proofs::RowOrder::same_units))]
 fn value_cmp(first: Option<&Datum>, second: Option<&Datum>) -> Ordering
-    ensures { result ≡ cmp (unwrap_or (option_copied first.entry) Nothing) (unwrap_or (option_copied second.entry) Nothing) }
+    ensures { result
+        ≡ cmp (unwrap_or (option_copied first.entry) Nothing) (unwrap_or (option_copied second.entry) Nothing) }
 {
     match (first, second) {
         (Some(x), Some(y)) => cmp(x, y),

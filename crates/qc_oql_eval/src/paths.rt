@@ -1,9 +1,9 @@
 // Operands, of which paths are not copied.
 ghost use Rattle.std.specs.Prelude.{◌≡◌, IfSome};
 ghost use Rattle.qc_data.specs.Outcome.{bits64, Value};
-ghost use Rattle.qc_oql_eval.specs.Bindings.{bindings_of};
-ghost use Rattle.qc_oql_eval.specs.Held.{datum_of};
-ghost use Rattle.qc_oql_eval.specs.Meaning as meaning;
+ghost use Rattle.qc_oql_eval.specs.inner.Scopes.{bindings_of};
+ghost use Rattle.qc_oql_eval.specs.inner.Held.{datum_of};
+ghost use Rattle.qc_oql_tree.specs.Meaning as meaning;
 
 use crate::operators::found_at;
 use crate::scope::{Scope, found};

@@ -1,9 +1,9 @@
 // Whether some or each member of a collection meets a condition.
 ghost use Rattle.std.specs.Prelude.{◌≡◌, [], ◌∷◌};
 ghost use Rattle.qc_data.specs.Outcome.{bits64, Gives};
-ghost use Rattle.qc_oql_eval.specs.Bindings.{bindings_of};
-ghost use Rattle.qc_oql_eval.specs.Forms as form;
-ghost use Rattle.qc_oql_eval.specs.Meaning as meaning;
+ghost use Rattle.qc_oql_eval.specs.inner.Scopes.{bindings_of};
+ghost use Rattle.qc_oql_tree.specs.FormMeanings as form;
+ghost use Rattle.qc_oql_tree.specs.Meaning as meaning;
 
 use crate::expression::truth;
 use crate::operands::items_of;
@@ -24,7 +24,9 @@ pub(crate) fn tested(
     name: &Chars,
     source: &Datum,
 ) -> Result<Datum, Halt>
-    ensures { Gives (form.tested quantifier name.now (meaning.oql bits64 world.now test.now) (bindings_of scope.now) source.now) result }
+    ensures { Gives
+        (form.tested quantifier name.now (meaning.oql bits64 world.now test.now) (bindings_of scope.now) source.now)
+        result }
 {
     let items = items_of(source)?;
     let answer = decided(
@@ -51,7 +53,9 @@ fn decided(
     name: &Chars,
     items: &[Datum],
 ) -> Result<bool, Halt>
-    ensures { Gives (form.decided quantifier name.now (meaning.oql bits64 world.now test.now) (bindings_of scope.now) items.now) result }
+    ensures { Gives
+        (form.decided quantifier name.now (meaning.oql bits64 world.now test.now) (bindings_of scope.now) items.now)
+        result }
 {
     let mut answer = starts(quantifier);
     for item in items {
@@ -71,13 +75,14 @@ fn member_truth(
     name: &Chars,
     member: &Datum,
 ) -> Result<bool, Halt>
-    ensures { Gives (form.truth (meaning.oql bits64 world.now test.now) ((name.now, member.now) ∷ bindings_of scope.now)) result }
+    ensures { Gives
+        (form.truth (meaning.oql bits64 world.now test.now) ((name.now, member.now) ∷ bindings_of scope.now)) result }
 {
     truth(alloc, world, &Scope::Bind(&*name, &*member, &*scope), test)
 }
 
 // The answer where there is no member.
-#[tactic(auto, unfolding(crate::specs::Forms::decides))]
+#[tactic(auto, unfolding(qc_oql_tree::specs::FormMeanings::decides))]
 fn starts(quantifier: Quantifier) -> bool
     ensures { result ≡ form.decides quantifier [] }
 {
@@ -88,7 +93,7 @@ fn starts(quantifier: Quantifier) -> bool
 }
 
 // The answer with one more member.
-#[tactic(auto, unfolding(crate::specs::Forms::decides))]
+#[tactic(auto, unfolding(qc_oql_tree::specs::FormMeanings::decides))]
 fn joins(quantifier: Quantifier, answer: bool, holds: bool) -> bool
     ensures { result ≡ form.decides quantifier (answer ∷ holds ∷ []) }
 {

@@ -1,7 +1,7 @@
 // Records of fields that may repeat a name.
 ghost use Rattle.std.specs.Prelude.{◌≡◌, IfOk, OnOk};
 ghost use Rattle.qc_ops.specs.Records.{put_new};
-ghost use Rattle.qc_oql_eval.specs.Forms.{record_of};
+ghost use Rattle.qc_oql_tree.specs.FormMeanings.{record_of};
 
 use qc_data::{Datum, Fields, Memory, Name};
 use std::alloc::Global;

@@ -1,7 +1,7 @@
 // Rows of a select.
 ghost use Rattle.std.specs.Prelude.{◌≡◌, [], ◌∷◌, ◌++◌, IfOk, OnOk};
 ghost use Rattle.qc_ops.specs.Columns.{behind};
-ghost use Rattle.qc_oql_eval.specs.Selecting.{rows_with};
+ghost use Rattle.qc_oql_tree.specs.SelectMeaning.{rows_with};
 
 use crate::scope::{Row, Rows};
 use qc_data::{Chars, Datum, Memory, copy};
@@ -17,7 +17,7 @@ pub(crate) fn only_row(alloc: Global) -> Result<Rows, Memory>
 }
 
 // Puts last, for each member, the row with the name bound to it.
-#[tactic(auto, unfolding(crate::specs::Selecting::rows_with))]
+#[tactic(auto, unfolding(qc_oql_tree::specs::SelectMeaning::rows_with))]
 pub(crate) fn spread(
     alloc: Global,
     rows: &mut Rows,

@@ -2,11 +2,10 @@
 ghost use Rattle.std.specs.Prelude.{◌++◌, map, option_map};
 ghost use Rattle.qc_data.specs.Outcome.{bits64, each, gather, Gives};
 ghost use Rattle.qc_ops.specs.Columns.{behind, GivesRefs};
-ghost use Rattle.qc_oql_tree.specs.declared.tree.Oql.TheViews.{out-Select};
-ghost use Rattle.qc_oql_eval.specs.Bindings.{bindings_of};
-ghost use Rattle.qc_oql_eval.specs.Meaning as meaning;
-ghost use Rattle.qc_oql_eval.specs.Rows.{GivesKept, GivesKeyed, GivesOneKeyed};
-ghost use Rattle.qc_oql_eval.specs.Selecting as selecting;
+ghost use Rattle.qc_oql_eval.specs.inner.Scopes.{bindings_of};
+ghost use Rattle.qc_oql_tree.specs.Meaning as meaning;
+ghost use Rattle.qc_oql_eval.specs.inner.Rows.{GivesKept, GivesKeyed, GivesOneKeyed};
+ghost use Rattle.qc_oql_tree.specs.SelectMeaning as selecting;
 
 use crate::expression::{outcome, truth};
 use crate::operators::distinct_if;
@@ -20,13 +19,14 @@ use std::alloc::Global;
 
 // The values of a select: of its rows, those that the condition keeps, in order.
 #[cycle(eval)]
+#[tactic(auto, using(qc_oql_tree::proofs::MeaningForms::select_is))]
 pub(crate) fn selected(
     alloc: Global,
     world: &World,
     scope: &Scope,
     select: &Select,
 ) -> Result<Datum, Halt>
-    ensures { Gives (selecting.selected (out-Select select.now).distinct (meaning.oql bits64 world.now (out-Select select.now).value) (map (meaning.named bits64 world.now) (out-Select select.now).sources) (option_map (meaning.filter bits64 world.now) (out-Select select.now).filter) (option_map (meaning.order bits64 world.now) (out-Select select.now).order) (bindings_of scope.now)) result }
+    ensures { Gives (meaning.select bits64 world.now select.now (bindings_of scope.now)) result }
 {
     let rows = rows_of(alloc, world, scope, select.sources.as_slice())?;
     let kept = filtered(alloc, world, scope, &select.filter, rows.as_slice())?;
@@ -38,7 +38,8 @@ pub(crate) fn selected(
 // All rows of the sources, the first source outermost.
 #[cycle(eval)]
 fn rows_of(alloc: Global, world: &World, scope: &Scope, sources: &[Named]) -> Result<Rows, Halt>
-    ensures { Gives (selecting.rows_of (map (meaning.named bits64 world.now) sources.now) (bindings_of scope.now)) result }
+    ensures { Gives
+        (selecting.rows_of (map (meaning.named bits64 world.now) sources.now) (bindings_of scope.now)) result }
 {
     let mut rows = only_row(alloc)?;
     for source in sources {
@@ -49,7 +50,7 @@ fn rows_of(alloc: Global, world: &World, scope: &Scope, sources: &[Named]) -> Re
 
 // The rows with a source's name bound to each of its members.
 #[cycle(eval)]
-#[tactic(auto, using(qc_data::proofs::Outcomes::gather_is, crate::proofs::Forms::named_name))]
+#[tactic(auto, using(qc_data::proofs::Outcomes::gather_is, qc_oql_tree::proofs::MeaningForms::named_name))]
 fn extended(
     alloc: Global,
     world: &World,
@@ -57,7 +58,9 @@ fn extended(
     source: &Named,
     rows: &[Row],
 ) -> Result<Rows, Halt>
-    ensures { Gives (gather (selecting.extended (meaning.named bits64 world.now source.now) (bindings_of scope.now)) rows.now) result }
+    ensures { Gives
+        (gather (selecting.extended (meaning.named bits64 world.now source.now) (bindings_of scope.now)) rows.now)
+        result }
 {
     let mut all = Rows::new(alloc);
     for row in rows {
@@ -75,7 +78,7 @@ fn extended(
 
 // The members of a source behind a row.
 #[cycle(eval)]
-#[tactic(auto, unfolding(crate::specs::Selecting::source_items))]
+#[tactic(auto, unfolding(qc_oql_tree::specs::SelectMeaning::source_items))]
 fn source_items(
     alloc: Global,
     world: &World,
@@ -83,7 +86,8 @@ fn source_items(
     source: &Named,
     row: &Row,
 ) -> Result<Items, Halt>
-    ensures { Gives (selecting.source_items (meaning.named bits64 world.now source.now) (bindings_of scope.now) row.now) result }
+    ensures { Gives
+        (selecting.source_items (meaning.named bits64 world.now source.now) (bindings_of scope.now) row.now) result }
 {
     match source_value(alloc, world, scope, source, row)? {
         Datum::Coll(items) => Ok(items),
@@ -93,7 +97,7 @@ fn source_items(
 
 // The value of a source behind a row.
 #[cycle(eval)]
-#[tactic(auto, using(crate::proofs::Forms::named_is))]
+#[tactic(auto, using(qc_oql_tree::proofs::MeaningForms::named_is))]
 fn source_value(
     alloc: Global,
     world: &World,
@@ -113,7 +117,7 @@ fn source_value(
 
 // The rows that the condition keeps, if there is one.
 #[cycle(eval)]
-#[tactic(auto, using(crate::proofs::Forms::filter_is))]
+#[tactic(auto, using(qc_oql_tree::proofs::MeaningForms::filter_is))]
 fn filtered<'a>(
     alloc: Global,
     world: &World,
@@ -121,7 +125,9 @@ fn filtered<'a>(
     filter: &Option<Filter>,
     rows: &'a [Row],
 ) -> Result<Vec<&'a Row>, Halt>
-    ensures { GivesRefs (selecting.filtered (option_map (meaning.filter bits64 world.now) filter.now) (bindings_of scope.now) rows.now) result }
+    ensures { GivesRefs
+        (selecting.filtered (option_map (meaning.filter bits64 world.now) filter.now) (bindings_of scope.now) rows.now)
+        result }
 {
     match filter {
         None => Ok(all_rows(alloc, rows)?),
@@ -139,7 +145,8 @@ fn kept<'a>(
     test: &Oql,
     rows: &'a [Row],
 ) -> Result<Vec<&'a Row>, Halt>
-    ensures { GivesRefs (gather (selecting.kept_row (meaning.oql bits64 world.now test.now) (bindings_of scope.now)) rows.now) result }
+    ensures { GivesRefs
+        (gather (selecting.kept_row (meaning.oql bits64 world.now test.now) (bindings_of scope.now)) rows.now) result }
 {
     let mut kept = Vec::new(alloc);
     for row in rows {
@@ -155,7 +162,7 @@ fn kept<'a>(
 
 // The row, if the condition is true on it.
 #[cycle(eval)]
-#[tactic(auto, unfolding(crate::specs::Selecting::kept_row))]
+#[tactic(auto, unfolding(qc_oql_tree::specs::SelectMeaning::kept_row))]
 fn kept_row<'a>(
     alloc: Global,
     world: &World,
@@ -163,7 +170,8 @@ fn kept_row<'a>(
     test: &Oql,
     row: &'a Row,
 ) -> Result<Option<&'a Row>, Halt>
-    ensures { GivesKept (selecting.kept_row (meaning.oql bits64 world.now test.now) (bindings_of scope.now) row.now) result }
+    ensures { GivesKept
+        (selecting.kept_row (meaning.oql bits64 world.now test.now) (bindings_of scope.now) row.now) result }
 {
     if truth(alloc, world, &Scope::Row(row.as_slice(), &*scope), test)? {
         Ok(Some(row))
@@ -174,7 +182,7 @@ fn kept_row<'a>(
 
 // The rows in the order of the keys, if there are any.
 #[cycle(eval)]
-#[tactic(auto, using(crate::proofs::Forms::order_is))]
+#[tactic(auto, using(qc_oql_tree::proofs::MeaningForms::order_is))]
 fn ordered<'a>(
     alloc: Global,
     world: &World,
@@ -182,7 +190,9 @@ fn ordered<'a>(
     order: &Option<Order>,
     rows: Vec<&'a Row>,
 ) -> Result<Vec<&'a Row>, Halt>
-    ensures { GivesRefs (selecting.ordered (option_map (meaning.order bits64 world.now) order.now) (bindings_of scope.now) (behind rows.entry.items)) result }
+    ensures { GivesRefs
+        (selecting.ordered (option_map (meaning.order bits64 world.now) order.now) (bindings_of scope.now)
+        (behind rows.entry.items)) result }
 {
     match order {
         None => Ok(rows),
@@ -192,7 +202,7 @@ fn ordered<'a>(
 
 // The rows in the order of the keys.
 #[cycle(eval)]
-#[tactic(auto, unfolding(crate::specs::Selecting::ordered_by))]
+#[tactic(auto, unfolding(qc_oql_tree::specs::SelectMeaning::ordered_by))]
 fn ordered_by<'a>(
     alloc: Global,
     world: &World,
@@ -200,7 +210,9 @@ fn ordered_by<'a>(
     keys: &[Key],
     rows: &[&'a Row],
 ) -> Result<Vec<&'a Row>, Halt>
-    ensures { GivesRefs (selecting.ordered_by (map (meaning.key bits64 world.now) keys.now) (bindings_of scope.now) (behind rows.now)) result }
+    ensures { GivesRefs
+        (selecting.ordered_by (map (meaning.key bits64 world.now) keys.now) (bindings_of scope.now) (behind rows.now))
+        result }
 {
     let keyed = keyed_rows(alloc, world, scope, keys, rows)?;
     in_order(alloc, keys, keyed)
@@ -216,7 +228,9 @@ fn keyed_rows<'a>(
     keys: &[Key],
     rows: &[&'a Row],
 ) -> Result<Vec<Keyed<'a>>, Halt>
-    ensures { GivesKeyed (each (selecting.keyed (map (meaning.key bits64 world.now) keys.now) (bindings_of scope.now)) (behind rows.now)) result }
+    ensures { GivesKeyed
+        (each (selecting.keyed (map (meaning.key bits64 world.now) keys.now) (bindings_of scope.now)) (behind rows.now))
+        result }
 {
     let mut all = Vec::new(alloc);
     for row in rows {
@@ -231,7 +245,7 @@ fn keyed_rows<'a>(
 
 // The row with the values of the keys.
 #[cycle(eval)]
-#[tactic(auto, unfolding(crate::specs::Selecting::keyed))]
+#[tactic(auto, unfolding(qc_oql_tree::specs::SelectMeaning::keyed))]
 fn keyed_row<'a>(
     alloc: Global,
     world: &World,
@@ -239,7 +253,8 @@ fn keyed_row<'a>(
     keys: &[Key],
     row: &'a Row,
 ) -> Result<Keyed<'a>, Halt>
-    ensures { GivesOneKeyed (selecting.keyed (map (meaning.key bits64 world.now) keys.now) (bindings_of scope.now) row.now) result }
+    ensures { GivesOneKeyed
+        (selecting.keyed (map (meaning.key bits64 world.now) keys.now) (bindings_of scope.now) row.now) result }
 {
     let keys = row_keys(alloc, world, scope, keys, row)?;
     Ok(Keyed { keys, row })
@@ -254,16 +269,18 @@ fn row_keys(
     keys: &[Key],
     row: &Row,
 ) -> Result<Items, Halt>
-    ensures { Gives (selecting.key_values (map (meaning.key bits64 world.now) keys.now) (row.now ++ bindings_of scope.now)) result }
+    ensures { Gives
+        (selecting.key_values (map (meaning.key bits64 world.now) keys.now) (row.now ++ bindings_of scope.now)) result }
 {
     key_values(alloc, world, &Scope::Row(row.as_slice(), &*scope), keys)
 }
 
 // The values of the keys.
 #[cycle(eval)]
-#[tactic(auto, using(qc_data::proofs::Outcomes::gather_is, crate::proofs::Forms::key_is), unfolding(crate::specs::Selecting::key_values))]
+#[tactic(auto, using(qc_data::proofs::Outcomes::gather_is, qc_oql_tree::proofs::MeaningForms::key_is), unfolding(qc_oql_tree::specs::SelectMeaning::key_values))]
 fn key_values(alloc: Global, world: &World, scope: &Scope, keys: &[Key]) -> Result<Items, Halt>
-    ensures { Gives (selecting.key_values (map (meaning.key bits64 world.now) keys.now) (bindings_of scope.now)) result }
+    ensures { Gives
+        (selecting.key_values (map (meaning.key bits64 world.now) keys.now) (bindings_of scope.now)) result }
 {
     let mut values = Items::new(alloc);
     for key in keys {
@@ -282,7 +299,8 @@ fn values_of(
     value: &Oql,
     rows: &[&Row],
 ) -> Result<Items, Halt>
-    ensures { Gives (each (λ row. meaning.oql bits64 world.now value.now (row ++ bindings_of scope.now)) (behind rows.now)) result }
+    ensures { Gives
+        (each (λ row. meaning.oql bits64 world.now value.now (row ++ bindings_of scope.now)) (behind rows.now)) result }
 {
     let mut values = Items::new(alloc);
     for row in rows {

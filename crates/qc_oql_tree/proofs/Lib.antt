@@ -1,0 +1,4 @@
+pub mod Agreeing
+pub mod MeaningForms
+pub mod MeaningLaws
+pub mod Pairings

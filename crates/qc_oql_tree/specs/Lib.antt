@@ -1,6 +1,17 @@
+pub mod inner
 pub mod Grammar
 pub mod Kinds
 pub mod Lexemes
 pub mod Operators
 pub mod Sizes
 pub mod Trees
+pub mod Bindings
+pub mod OperatorMeanings
+pub mod FormMeanings
+pub mod SelectMeaning
+pub mod Meaning
+pub mod PartTypes
+pub mod OperatorTypes
+pub mod FormTypings
+pub mod Typing
+pub mod Soundness

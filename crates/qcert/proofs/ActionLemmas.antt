@@ -5,7 +5,7 @@ use Rattle.qc_data.specs.declared.data.Datum.{Datum}
 use Rattle.qc_io.specs.Device.{Texts}
 use Rattle.qc_types.specs.Schemas.{SchemaOf}
 use Rattle.qc_oql.specs.declared.reading.TypedQuery.{TypedQuery}
-use Rattle.qc_oql_eval.specs.Meaning.{query}
+use Rattle.qc_oql_tree.specs.Meaning.{query}
 use Rattle.qcert.specs.declared.job.Action.{Action}
 use Rattle.qcert.specs.declared.job.Action.TheVariants.{Check, Compile, Run}
 use Rattle.qcert.specs.declared.refusal.Refusal.{Refusal}

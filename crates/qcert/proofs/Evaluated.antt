@@ -10,8 +10,8 @@ use Rattle.qc_lang.specs.Keeping.{IsOf}
 use Rattle.qc_types.specs.Schemas.{SchemaOf, WorldOf, is_world}
 use Rattle.qc_schema.specs.Writing.{text_of}
 use Rattle.qc_oql.specs.declared.reading.TypedQuery.{TypedQuery}
-use Rattle.qc_oql_eval.specs.Meaning.{query}
-use Rattle.qc_oql_check.specs.Soundness.{IsSound}
+use Rattle.qc_oql_tree.specs.Meaning.{query}
+use Rattle.qc_oql_tree.specs.Soundness.{IsSound}
 use Rattle.qcert.specs.declared.job.Action.TheVariants.{Run}
 use Rattle.qcert.specs.declared.refusal.Refusal.{Refusal}
 use Rattle.qcert.specs.declared.refusal.Refusal.TheVariants.{Range, Memory}

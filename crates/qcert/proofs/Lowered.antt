@@ -34,11 +34,11 @@ use Rattle.qc_oql_tree.specs.declared.tree.Key.{Key}
 use Rattle.qc_oql_tree.specs.declared.tree.Named.{Named}
 use Rattle.qc_oql_tree.specs.declared.tree.Order.{Order}
 use Rattle.qc_oql_tree.specs.declared.tree.Select.{Select}
-use Rattle.qc_oql_eval.specs.Meaning.{form, filter_form, key_form, named_form, order_form, select_form, oql, filter, key, named, order, select}
-use Rattle.qc_oql_eval.specs.Selecting.{KeyMeaning}
-use Rattle.qc_oql_eval.specs.Bindings.{Bindings, Meaning}
-use Rattle.qc_oql_eval.specs.Forms.{NamedMeaning, by_pairing}
-use Rattle.qc_oql_eval.specs.Operators.{one_value, pairing_of}
+use Rattle.qc_oql_tree.specs.Meaning.{form, filter_form, key_form, named_form, order_form, select_form, oql, filter, key, named, order, select}
+use Rattle.qc_oql_tree.specs.SelectMeaning.{KeyMeaning}
+use Rattle.qc_oql_tree.specs.Bindings.{Bindings, Meaning}
+use Rattle.qc_oql_tree.specs.FormMeanings.{NamedMeaning}
+use Rattle.qc_oql_tree.specs.OperatorMeanings.{one_value, of_two}
 use Rattle.qcert.proofs.Bags.{there, mapped}
 use Rattle.qcert.specs.Lowering.{all_there, called_one, called_two, lower_form, lowered}
 
@@ -92,7 +92,7 @@ arity_two binary.Add Add e = refl
 arity_two op f e = absurd (cc)
 
 two_same : (m : Mode) (op : Binary) (f : Function) → called_two op ≡ Some f → (a b : Meaning) (s : Bindings)
-    → and_then (in_order (encoded (a s) ∷ encoded (b s) ∷ [])) (call m f) ≡ encoded (by_pairing m (pairing_of op) a b s)
+    → and_then (in_order (encoded (a s) ∷ encoded (b s) ∷ [])) (call m f) ≡ encoded (of_two m op a b s)
 two_same m binary.Add Add e a b s = two_arguments (a s) (b s) (addition m) (call m Add) (λ x y. rw (json_int-enc x, json_int-enc y) (ints_made m _ (as_int x) (as_int y)))
 two_same m op f e a b s = absurd (cc)
 

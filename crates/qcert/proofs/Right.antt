@@ -13,8 +13,8 @@ use Rattle.qc_js.specs.Spelling.{Spells}
 use Rattle.qc_oql.specs.declared.reading.TypedQuery.{TypedQuery}
 use Rattle.qc_oql_tree.specs.declared.tree.Named.{Named}
 use Rattle.qc_oql_tree.specs.declared.tree.Oql.{Oql}
-use Rattle.qc_oql_eval.specs.Meaning.{defined, named, oql, query}
-use Rattle.qc_oql_check.specs.Soundness.{IsSound}
+use Rattle.qc_oql_tree.specs.Meaning.{defined, named, oql, query}
+use Rattle.qc_oql_tree.specs.Soundness.{IsSound}
 use Rattle.qcert.specs.Answer.{IsProgramOf}
 use Rattle.qcert.specs.Lowering.{lowered_body, lowered_query}
 use Rattle.qcert.specs.Right.{IsWorld, world_in, AnswersAs}

@@ -4,7 +4,7 @@ use Rattle.qc_data.specs.declared.data.Datum.{Datum}
 use Rattle.qc_data.specs.Encoding.{enc}
 use Rattle.qc_data.specs.Outcome.{any_size, bits64, Value, Halts, Range}
 use Rattle.qc_types.specs.Schemas.{SchemaOf, WorldOf, is_world}
-use Rattle.qc_oql_eval.specs.Meaning.{query}
+use Rattle.qc_oql_tree.specs.Meaning.{query}
 use Rattle.qc_oql_tree.specs.declared.tree.Query.{Query}
 use Rattle.qc_js.specs.declared.tree.Js.{Js}
 use Rattle.qc_js.specs.Layout.{layout}

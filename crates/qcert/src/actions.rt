@@ -2,8 +2,8 @@
 ghost use Rattle.std.specs.Prelude.{◌≡◌, ◌⊎◌, None, IfOk, MatchResult};
 ghost use Rattle.std.specs.String.{string_bytes};
 ghost use Rattle.qc_data.specs.Outcome.{bits64, Halts, Range as OutOfRange};
-ghost use Rattle.qc_oql_check.specs.Soundness.{IsSound};
-ghost use Rattle.qc_oql_eval.specs.Meaning as meaning;
+ghost use Rattle.qc_oql_tree.specs.Soundness.{IsSound};
+ghost use Rattle.qc_oql_tree.specs.Meaning as meaning;
 ghost use Rattle.qc_schema.specs.TypeText.{tree_of};
 ghost use Rattle.qc_schema.specs.Writing.{text_of};
 ghost use Rattle.qcert.specs.declared.refusal.Refusal.TheVariants as refusals;

@@ -5,7 +5,7 @@ ghost use Rattle.std.specs.Result.{result_map_both};
 ghost use Rattle.std.specs.Rc.{rc_str_bytes};
 ghost use Rattle.std.specs.String.{string_bytes};
 ghost use Rattle.qc_io.specs.Device.{Rose};
-ghost use Rattle.qc_oql_check.specs.Soundness.{IsSound};
+ghost use Rattle.qc_oql_tree.specs.Soundness.{IsSound};
 ghost use Rattle.qcert.specs.Answer.{Answers, Gives, IsAnswer, RefusesAction, RefusesRun};
 ghost use Rattle.qcert.specs.declared.job.Action.TheVariants as action;
 ghost use Rattle.qcert.specs.declared.refusal.Refusal.TheVariants as refusals;

@@ -3,7 +3,7 @@
 ghost use Rattle.std.specs.Prelude.{◌≤◌, ◌≡◌, ℕ, Some, IfOk, MatchResult};
 ghost use Rattle.std.specs.Option.{option_copied};
 ghost use Rattle.qc_io.specs.Device.{Rose, IsText};
-ghost use Rattle.qc_oql_check.specs.Soundness.{IsSound};
+ghost use Rattle.qc_oql_tree.specs.Soundness.{IsSound};
 ghost use Rattle.qcert.specs.declared.refusal.File.TheVariants as file;
 ghost use Rattle.qcert.specs.Files.{most_of, RefusesFetch, RefusesFile};
 ghost use Rattle.qcert.specs.Right.{world_in};

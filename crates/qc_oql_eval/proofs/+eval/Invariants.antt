@@ -4,11 +4,11 @@ use Rattle.qc_data.specs.Outcome.{Value, and_then, alone, bits64, each, gather}
 use Rattle.qc_data.proofs.Outcomes.{gather_from}
 use Rattle.qc_ops.specs.Columns.{behind}
 use Rattle.qc_ops.specs.Operands.{bag}
-use Rattle.qc_oql_eval.specs.Bindings.{bindings_of}
-use Rattle.qc_oql_eval.specs.Forms.{collected, decided, field_of, record_of, structured, truth}
-use Rattle.qc_oql_eval.specs.Meaning.{key, named, oql}
-use Rattle.qc_oql_eval.specs.Rows.{keyed_rows}
-use Rattle.qc_oql_eval.specs.Selecting.{extended, kept_row, key_values, keyed, rows_from, rows_of}
+use Rattle.qc_oql_eval.specs.inner.Scopes.{bindings_of}
+use Rattle.qc_oql_tree.specs.FormMeanings.{collected, decided, field_of, record_of, structured, truth}
+use Rattle.qc_oql_tree.specs.Meaning.{key, named, oql}
+use Rattle.qc_oql_eval.specs.inner.Rows.{keyed_rows}
+use Rattle.qc_oql_tree.specs.SelectMeaning.{extended, kept_row, key_values, keyed, rows_from, rows_of}
 use Rattle.qc_oql_eval.proofs.Deciding.{decided_from}
 use Rattle.qc_oql_eval.proofs.+eval.Given as goal
 

@@ -1,8 +1,8 @@
 use Rattle.std.proofs.Common.{◌≡◌, map, drop}
 use Rattle.qc_typing.specs.Checking.{each_checked}
-use Rattle.qc_oql_check.specs.Forms.{keys_checked, sources_bound, typed_field}
-use Rattle.qc_oql_check.specs.Scopes.{field_types, onto, types_of}
-use Rattle.qc_oql_check.specs.Typing.{key_type, named_type, oql_type}
+use Rattle.qc_oql_tree.specs.FormTypings.{keys_checked, sources_bound, typed_field}
+use Rattle.qc_oql_check.specs.inner.Scopes.{field_types, onto, types_of}
+use Rattle.qc_oql_tree.specs.Typing.{key_type, named_type, oql_type}
 use Rattle.qc_oql_check.proofs.Traversals.{checked_from}
 use Rattle.qc_oql_check.proofs.expression.+typing.Given as goal
 

@@ -1,6 +1,6 @@
 use Rattle.std.proofs.Common.{◌≡◌, drop}
 use Rattle.qc_types.specs.declared.ty.Ty.TheVariants as ty
-use Rattle.qc_oql_check.specs.Parts.{join_all}
+use Rattle.qc_oql_tree.specs.PartTypes.{join_all}
 use Rattle.qc_oql_check.proofs.parts.join_all.Given as goal
 
 abbrev pub invariant-loop-member : goal.invariant-loop-member

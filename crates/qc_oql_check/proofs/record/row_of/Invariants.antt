@@ -1,6 +1,6 @@
 use Rattle.std.proofs.Common.{◌≡◌, [], drop}
-use Rattle.qc_oql_check.specs.Parts.{row_of}
-use Rattle.qc_oql_check.specs.Scopes.{field_types}
+use Rattle.qc_oql_tree.specs.PartTypes.{row_of}
+use Rattle.qc_oql_check.specs.inner.Scopes.{field_types}
 use Rattle.qc_oql_check.proofs.record.row_of.Given as goal
 
 abbrev pub invariant-loop-field : goal.invariant-loop-field

@@ -1,7 +1,7 @@
 use Rattle.std.proofs.Common.{◌≡◌, [], drop}
 use Rattle.std.specs.Option.{option_copied}
 use Rattle.qc_data.specs.Pairs.{lookup}
-use Rattle.qc_oql_check.specs.Scopes.{onto}
+use Rattle.qc_oql_check.specs.inner.Scopes.{onto}
 use Rattle.qc_oql_check.proofs.Lookups.{newest}
 use Rattle.qc_oql_check.proofs.scope.in_row.Given as goal
 

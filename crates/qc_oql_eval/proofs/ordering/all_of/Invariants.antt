@@ -1,8 +1,8 @@
 use Rattle.std.proofs.Common.{◌≡◌, drop, map}
 use Rattle.std.specs.List.{list_all}
-use Rattle.qc_oql_eval.specs.Kinds.{is_of}
-use Rattle.qc_oql_eval.specs.Rows.{keyed_rows}
-use Rattle.qc_oql_eval.specs.Selecting.{value_at}
+use Rattle.qc_oql_eval.specs.inner.SortKinds.{is_of}
+use Rattle.qc_oql_eval.specs.inner.Rows.{keyed_rows}
+use Rattle.qc_oql_eval.specs.inner.Columns.{value_at}
 use Rattle.qc_oql_eval.proofs.ordering.all_of.Given as goal
 
 abbrev pub invariant-loop-row : goal.invariant-loop-row

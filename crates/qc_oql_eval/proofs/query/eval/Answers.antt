@@ -1,4 +1,4 @@
-use Rattle.qc_oql_eval.proofs.Laws.{agrees_query}
+use Rattle.qc_oql_tree.proofs.MeaningLaws.{agrees_query}
 use Rattle.qc_oql_eval.proofs.query.eval.Goals as goal
 
 pub returns-clause-agrees : goal.returns-clause-agrees

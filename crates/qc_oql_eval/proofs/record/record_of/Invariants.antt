@@ -1,5 +1,5 @@
 use Rattle.std.proofs.Common.{◌≡◌, vec_len}
-use Rattle.qc_oql_eval.specs.Forms.{record_of}
+use Rattle.qc_oql_tree.specs.FormMeanings.{record_of}
 use Rattle.qc_oql_eval.proofs.Recording.{record_onto}
 use Rattle.qc_oql_eval.proofs.record.record_of.Given as goal
 

@@ -1,5 +1,5 @@
 use Rattle.std.proofs.Common.{◌≡◌, ◌++◌, take}
-use Rattle.qc_oql_eval.specs.Selecting.{rows_with}
+use Rattle.qc_oql_tree.specs.SelectMeaning.{rows_with}
 use Rattle.qc_oql_eval.proofs.rows.spread.Given as goal
 
 abbrev pub invariant-loop-member : goal.invariant-loop-member

@@ -5,9 +5,16 @@ use Rattle.std.specs.declared.alloc.Global.{Global}
 use Rattle.qc_data.specs.Outcome.{Outcome, Value, Halts, why_of}
 use Rattle.qc_data.specs.declared.halt.Halt.{Halt}
 use Rattle.qc_data.specs.declared.halt.Halt.TheVariants as halt
-use Rattle.qc_oql_eval.specs.Bindings.{Bindings}
-use Rattle.qc_oql_eval.specs.Selecting.{KeyedRow}
+use Rattle.qc_oql_tree.specs.declared.tree.Direction.{Direction}
+use Rattle.qc_oql_tree.specs.declared.tree.Key.{Key}
+use Rattle.qc_oql_tree.specs.declared.tree.Oql.TheViews.{out-Key}
+use Rattle.qc_oql_tree.specs.Bindings.{Bindings}
+use Rattle.qc_oql_tree.specs.SelectMeaning.{KeyedRow}
 use Rattle.qc_oql_eval.specs.declared.ordering.Keyed.{Keyed}
+
+-- the directions of keys
+abbrev pub directions : List Key → List Direction
+directions keys = map (λ key. (out-Key key).direction) keys
 
 -- the rows with the values of their keys
 abbrev pub keyed_rows : List Keyed → List KeyedRow

@@ -8,21 +8,28 @@ use Rattle.qc_ops.specs.Texts.{likeness}
 use Rattle.qc_types.specs.Schemas.{WorldOf}
 use Rattle.qc_oql_tree.specs.declared.tree.Oql.{Oql}
 use Rattle.qc_oql_tree.specs.declared.tree.Oql.TheOpen.{Oql-F, Filter-F, Key-F, Named-F, Order-F, Select-F}
-use Rattle.qc_oql_tree.specs.declared.tree.Oql.TheViews.{roll-Oql, roll-Filter, roll-Key, roll-Named, roll-Order, roll-Select}
-use Rattle.qc_oql_tree.specs.declared.tree.Oql.TheFolds.{fold-roll-Oql, fold-roll-Filter, fold-roll-Key, fold-roll-Named, fold-roll-Order, map-Oql, map-Filter, map-Key, map-Named, map-Order, map-Select, ind-Oql, ind-Named}
+use Rattle.qc_oql_tree.specs.declared.tree.Oql.TheViews.{roll-Oql, roll-Filter, roll-Key, roll-Named, roll-Order}
+use Rattle.qc_oql_tree.specs.declared.tree.Oql.TheViews.{roll-Select}
+use Rattle.qc_oql_tree.specs.declared.tree.Oql.TheFolds.{fold-roll-Oql, fold-roll-Filter, fold-roll-Key}
+use Rattle.qc_oql_tree.specs.declared.tree.Oql.TheFolds.{fold-roll-Named, fold-roll-Order, map-Oql, map-Filter, map-Key}
+use Rattle.qc_oql_tree.specs.declared.tree.Oql.TheFolds.{map-Named, map-Order, map-Select, ind-Oql, ind-Named}
 use Rattle.qc_oql_tree.specs.declared.tree.Filter.{Filter}
 use Rattle.qc_oql_tree.specs.declared.tree.Key.{Key}
 use Rattle.qc_oql_tree.specs.declared.tree.Named.{Named}
 use Rattle.qc_oql_tree.specs.declared.tree.Order.{Order}
 use Rattle.qc_oql_tree.specs.declared.tree.Query.{Query}
 use Rattle.qc_oql_tree.specs.declared.tree.Select.{Select}
-use Rattle.qc_oql_eval.specs.Bindings.{Meaning, value_of}
-use Rattle.qc_oql_eval.specs.Forms.{NamedMeaning}
-use Rattle.qc_oql_eval.specs.Operators.{on_one, pairing_of, divided, branded, one_value}
-use Rattle.qc_oql_eval.specs.Selecting.{KeyMeaning}
-use Rattle.qc_oql_eval.specs.Meaning.{form, filter_form, key_form, named_form, order_form, select_form, oql, filter, key, named, order, select, query}
-use Rattle.qc_oql_eval.proofs.Forms.{select_roll}
-use Rattle.qc_oql_eval.proofs.Agreeing.{AgreesM, AgreesN, AgreesK, Zip, Both, agrees_on, agrees_one, agrees_pairing, agrees_divided, agrees_branded, agrees_matched, agrees_chosen, agrees_quantified, agrees_collected, agrees_structured, agrees_selected, agrees_defined}
+use Rattle.qc_oql_tree.specs.Bindings.{Meaning, value_of}
+use Rattle.qc_oql_tree.specs.FormMeanings.{NamedMeaning}
+use Rattle.qc_oql_tree.specs.OperatorMeanings.{divided, branded, one_value}
+use Rattle.qc_oql_tree.specs.SelectMeaning.{KeyMeaning}
+use Rattle.qc_oql_tree.specs.Meaning.{form, filter_form, key_form, named_form, order_form, select_form, oql, filter}
+use Rattle.qc_oql_tree.specs.Meaning.{key, named, order, select, query}
+use Rattle.qc_oql_tree.proofs.MeaningForms.{select_roll}
+use Rattle.qc_oql_tree.proofs.Agreeing.{AgreesM, AgreesN, AgreesK, Zip, Both, agrees_on, agrees_value, agrees_two}
+use Rattle.qc_oql_tree.proofs.Agreeing.{agrees_divided, agrees_branded, agrees_matched, agrees_chosen}
+use Rattle.qc_oql_tree.proofs.Agreeing.{agrees_quantified, agrees_collected, agrees_structured, agrees_selected}
+use Rattle.qc_oql_tree.proofs.Agreeing.{agrees_defined}
 
 module _ (lo hi : ℤ) (w : WorldOf) where
   -- ---- the claim of each type of the trees
@@ -67,8 +74,8 @@ module _ (lo hi : ℤ) (w : WorldOf) where
   layer (Oql-F.Constant at c) s = refl
   layer (Oql-F.Struct at fs) s = agrees_structured _ _ (zip_held OfNamed AgreesN (named any_size w) (named (within lo hi) w) (λ x h. h) fs) s
   layer (Oql-F.Bag at xs) s = agrees_collected _ _ (zip_held OfOql AgreesM (oql any_size w) (oql (within lo hi) w) (λ x h. h) xs) s
-  layer (Oql-F.Unary at op a) s = agrees_on (one_value any_size w.classes op) (one_value (within lo hi) w.classes op) (oql any_size w a.0) (oql (within lo hi) w a.0) (agrees_one lo hi w.classes (on_one op)) a.1 s
-  layer (Oql-F.Binary at op a b) s = agrees_pairing lo hi (pairing_of op) (oql any_size w a.0) (oql any_size w b.0) (oql (within lo hi) w a.0) (oql (within lo hi) w b.0) a.1 b.1 s
+  layer (Oql-F.Unary at op a) s = agrees_on (one_value any_size w.classes op) (one_value (within lo hi) w.classes op) (oql any_size w a.0) (oql (within lo hi) w a.0) (agrees_value lo hi w.classes op) a.1 s
+  layer (Oql-F.Binary at op a b) s = agrees_two lo hi op (oql any_size w a.0) (oql any_size w b.0) (oql (within lo hi) w a.0) (oql (within lo hi) w b.0) a.1 b.1 s
   layer (Oql-F.Divide at d a k) s = agrees_on (divided any_size w.classes d k) (divided (within lo hi) w.classes d k) (oql any_size w a.0) (oql (within lo hi) w a.0) (agrees_divided lo hi w.classes d k) a.1 s
   layer (Oql-F.Like at a pattern) s = agrees_on (likeness pattern) (likeness pattern) (oql any_size w a.0) (oql (within lo hi) w a.0) (λ x. agrees_same (likeness pattern x)) a.1 s
   layer (Oql-F.Dot at a label) s = agrees_on (field label) (field label) (oql any_size w a.0) (oql (within lo hi) w a.0) (λ x. agrees_same (field label x)) a.1 s

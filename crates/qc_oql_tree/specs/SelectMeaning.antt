@@ -1,5 +1,5 @@
 -- The select: in whole lists, from its rows to its values.
-use Rattle.std.specs.Prelude.{ℕ, suc, Bool, true, false, cond, ◌&&◌, List, [], ◌∷◌, ◌++◌, map, Option, Some, None, slice_get, unwrap_or}
+use Rattle.std.specs.Prelude.{ℕ, Bool, true, false, cond, ◌&&◌, List, [], ◌∷◌, ◌++◌, map, Option, Some, None}
 use Rattle.std.specs.Ordering.{ordering_then}
 use Rattle.std.specs.declared.cmp.Ordering.{Ordering}
 use Rattle.std.specs.declared.cmp.Ordering.TheVariants.{Equal}
@@ -11,12 +11,10 @@ use Rattle.qc_data.specs.declared.data.Datum.TheVariants.{Unit as Nothing, Coll}
 use Rattle.qc_ops.specs.Bags.{firsts}
 use Rattle.qc_ops.specs.Operands.{only_if}
 use Rattle.qc_ops.specs.Sorting.{one_kind, directed}
-use Rattle.qc_oql_tree.specs.declared.tree.Key.{Key}
-use Rattle.qc_oql_tree.specs.declared.tree.Oql.TheViews.{out-Key}
 use Rattle.qc_oql_tree.specs.declared.tree.Direction.{Direction}
 use Rattle.qc_oql_tree.specs.declared.tree.Direction.TheVariants.{Asc, Desc}
-use Rattle.qc_oql_eval.specs.Bindings.{Bindings, Meaning}
-use Rattle.qc_oql_eval.specs.Forms.{NamedMeaning, truth}
+use Rattle.qc_oql_tree.specs.Bindings.{Bindings, Meaning}
+use Rattle.qc_oql_tree.specs.FormMeanings.{NamedMeaning, truth}
 
 -- a key with its direction
 abbrev pub KeyMeaning : Type 0
@@ -64,34 +62,45 @@ key_values keys s = each (λ key. key.0 s) keys
 unfoldable pub keyed : List KeyMeaning → Bindings → Bindings → Outcome KeyedRow
 keyed keys s row = and_then (key_values keys (row ++ s)) (λ ds. Value (ds, row))
 
--- the value of the key at a place
-abbrev pub value_at : ℕ → List Datum → Datum
-value_at i ds = unwrap_or (slice_get ds i) Nothing
+-- the value of the first key, of which each row has one
+abbrev pub first_value : List Datum → Datum
+first_value [] = Nothing
+first_value (x ∷ xs) = x
 
--- from place i on, each key's values are of one kind
-abbrev pub are_sortable : ℕ → List Direction → List KeyedRow → Bool
-are_sortable i [] rows = true
-are_sortable i (d ∷ ds) rows = one_kind (map (λ row. value_at i row.0) rows) && are_sortable (suc i) ds rows
+-- the values of the keys behind the first
+abbrev pub later_values : List Datum → List Datum
+later_values [] = []
+later_values (x ∷ xs) = xs
+
+-- each key's values are of one kind in all rows
+abbrev pub are_sortable : List Direction → List (List Datum) → Bool
+are_sortable [] rows = true
+are_sortable (d ∷ ds) rows = one_kind (map first_value rows) && are_sortable ds (map later_values rows)
 
 -- the direction is ascending
 abbrev pub is_ascending : Direction → Bool
 is_ascending Asc = true
 is_ascending Desc = false
 
--- how values of keys compare, by those from place i on in turn
-abbrev pub keys_cmp : ℕ → List Direction → List Datum → List Datum → Ordering
-keys_cmp i [] xs ys = Equal
-keys_cmp i (d ∷ ds) xs ys = ordering_then (directed (is_ascending d) (value_at i xs) (value_at i ys)) (keys_cmp (suc i) ds xs ys)
+-- how the values of one row's keys compare with another's, by each key in turn
+abbrev pub keys_cmp : List Direction → List Datum → List Datum → Ordering
+keys_cmp [] xs ys = Equal
+keys_cmp (d ∷ ds) xs ys =
+    ordering_then (directed (is_ascending d) (first_value xs) (first_value ys))
+    (keys_cmp ds (later_values xs) (later_values ys))
 
 -- rows in the order of their keys; those that tie keep theirs
 abbrev pub sorted : List Direction → List KeyedRow → List KeyedRow
-sorted directions rows = sort_by (λ a b. keys_cmp 0 directions a.0 b.0) rows
+sorted directions rows = sort_by (λ a b. keys_cmp directions a.0 b.0) rows
 
 -- order by: each key's values are all integers, all texts or all truth values
 unfoldable pub ordered_by : List KeyMeaning → Bindings → List Bindings → Outcome (List Bindings)
 ordered_by keys s rows =
-    and_then (each (keyed keys s) rows) (λ ks. only_if (are_sortable 0 (map (λ key. key.1) keys) ks) (Value (map (λ row. row.1) (sorted (map (λ key. key.1) keys) ks))))
+    and_then (each (keyed keys s) rows) (λ ks.
+    only_if (are_sortable (map (λ key. key.1) keys) (map (λ row. row.0) ks)) (
+    Value (map (λ row. row.1) (sorted (map (λ key. key.1) keys) ks))))
 
+-- the rows in order, if there are keys
 abbrev pub ordered : Option (List KeyMeaning) → Bindings → List Bindings → Outcome (List Bindings)
 ordered None s rows = Value rows
 ordered (Some keys) s rows = ordered_by keys s rows
@@ -103,8 +112,8 @@ distinct_if distinct xs = cond distinct (firsts xs) xs
 -- a select: its rows, those that the condition keeps, in order, and the value of each
 abbrev pub selected : Bool → Meaning → List NamedMeaning → Option Meaning → Option (List KeyMeaning) → Meaning
 selected distinct value sources filter order s =
-    and_then (rows_of sources s) (λ rows. and_then (filtered filter s rows) (λ kept. and_then (ordered order s kept) (λ sorted. and_then (each (λ row. value (row ++ s)) sorted) (λ values. Value (Coll (distinct_if distinct values))))))
-
--- the directions of keys
-abbrev pub directions : List Key → List Direction
-directions keys = map (λ key. (out-Key key).direction) keys
+    and_then (rows_of sources s) (λ rows.
+    and_then (filtered filter s rows) (λ kept.
+    and_then (ordered order s kept) (λ sorted.
+    and_then (each (λ row. value (row ++ s)) sorted) (λ values.
+    Value (Coll (distinct_if distinct values))))))

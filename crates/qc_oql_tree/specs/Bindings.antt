@@ -1,12 +1,10 @@
 -- Names with their values, and what a name stands for.
-use Rattle.std.specs.Prelude.{ℕ, List, [], ◌∷◌, ◌++◌, Option, Some, None}
+use Rattle.std.specs.Prelude.{ℕ, List, Option, Some, None}
 use Rattle.qc_data.specs.Outcome.{Outcome}
 use Rattle.qc_data.specs.Pairs.{lookup}
 use Rattle.qc_data.specs.declared.data.Datum.{Datum}
 use Rattle.qc_ops.specs.Operands.{found}
 use Rattle.qc_types.specs.Schemas.{WorldOf, global}
-use Rattle.qc_oql_eval.specs.declared.scope.Scope.{Scope}
-use Rattle.qc_oql_eval.specs.declared.scope.Scope.TheVariants as scope
 
 -- variables and definitions, the newest first
 abbrev pub Bindings : Type 0
@@ -24,9 +22,3 @@ or_else_some (Some a) o = Some a
 -- a name is the newest binding of it, or else the global of the world
 abbrev pub value_of : WorldOf → List ℕ → Meaning
 value_of w name s = found (or_else_some (lookup name s) (global name w.datum))
-
--- the bindings of a scope
-abbrev pub bindings_of : Scope → Bindings
-bindings_of scope.Empty = []
-bindings_of (scope.Bind' name d p outer) = (name.now, d.now) ∷ bindings_of outer
-bindings_of (scope.Row' row p outer) = row.now ++ bindings_of outer

@@ -1,11 +1,11 @@
--- The forms of expressions but `select`, by the meanings of their parts. The first outcome that is no value decides.
-use Rattle.std.specs.Prelude.{ℕ, Bool, true, false, cond, List, [], ◌∷◌, Option, Some, None}
+-- What the forms of expressions but operators and `select` mean, by the meanings of their parts. The first outcome that
+-- is no
+-- value decides.
+use Rattle.std.specs.Prelude.{ℕ, Bool, true, false, cond, List, [], ◌∷◌}
 use Rattle.std.specs.List.{list_any, list_all}
 use Rattle.qc_data.specs.Kinds.{as_coll}
-use Rattle.qc_data.specs.Outcome.{Mode, Outcome, Value, Halts, Stuck, and_then, each}
+use Rattle.qc_data.specs.Outcome.{Outcome, Value, and_then, each}
 use Rattle.qc_data.specs.declared.data.Datum.{Datum}
-use Rattle.qc_data.specs.declared.data.Datum.TheOpen.{Datum-F}
-use Rattle.qc_data.specs.declared.data.Datum.TheViews.{out-Datum}
 use Rattle.qc_data.specs.declared.data.Datum.TheVariants.{Unit as Nothing, Bool as Truth, Rec}
 use Rattle.qc_ops.specs.Operands.{as_bool, bag}
 use Rattle.qc_ops.specs.Records.{put_new}
@@ -13,9 +13,8 @@ use Rattle.qc_oql_tree.specs.declared.tree.Constant.{Constant}
 use Rattle.qc_oql_tree.specs.declared.tree.Constant.TheVariants.{True, False, Nil}
 use Rattle.qc_oql_tree.specs.declared.tree.Quantifier.{Quantifier}
 use Rattle.qc_oql_tree.specs.declared.tree.Quantifier.TheVariants.{Exists, ForAll}
-use Rattle.qc_oql_eval.specs.Bindings.{Bindings, Meaning}
-use Rattle.qc_oql_eval.specs.Operators.{name_of, paired}
-use Rattle.qc_oql_eval.specs.declared.operators.Pairing.{Pairing}
+use Rattle.qc_oql_tree.specs.Bindings.{Bindings, Meaning}
+use Rattle.qc_oql_tree.specs.OperatorMeanings.{by_side, name_of}
 
 -- a name with the meaning of its expression
 abbrev pub NamedMeaning : Type 0
@@ -26,36 +25,6 @@ abbrev pub constant : Constant → Datum
 constant True = Truth true
 constant False = Truth false
 constant Nil = Nothing
-
--- an operator of one operand
-abbrev pub after : (Datum → Outcome Datum) → Meaning → Meaning
-after f a s = and_then (a s) f
-
--- an operator of two operands, the left one first
-abbrev pub both : (Datum → Datum → Outcome Datum) → Meaning → Meaning → Meaning
-both f a b s = and_then (a s) (λ x. and_then (b s) (λ y. f x y))
-
--- what a left and a right content give
-abbrev pub side_at : (Datum → Outcome Datum) → (Datum → Outcome Datum) → Datum-F Datum → Outcome Datum
-side_at f g (Datum-F.Left d) = f d
-side_at f g (Datum-F.Right d) = g d
-side_at f g _ = Halts Stuck
-
-abbrev pub by_side : (Datum → Outcome Datum) → (Datum → Outcome Datum) → Datum → Outcome Datum
-by_side f g d = side_at f g (out-Datum d)
-
--- the content of a left value; of a right one the other operand, which is evaluated only then
-abbrev pub or_else_of : Meaning → Bindings → Datum → Outcome Datum
-or_else_of b s x = by_side (λ content. Value content) (λ content. b s) x
-
--- orelse
-abbrev pub or_else : Meaning → Meaning → Meaning
-or_else a b s = and_then (a s) (or_else_of b s)
-
--- an operator of two operands, where no pairing is `orelse`
-abbrev pub by_pairing : Mode → Option Pairing → Meaning → Meaning → Meaning
-by_pairing m None = or_else
-by_pairing m (Some p) = both (paired m p)
 
 -- a body with its name bound
 abbrev pub bound : NamedMeaning → Bindings → Datum → Outcome Datum
@@ -83,7 +52,8 @@ abbrev pub decided : Quantifier → List ℕ → Meaning → Bindings → List D
 decided q name test s xs = and_then (each (λ x. truth test ((name, x) ∷ s)) xs) (λ ts. Value (decides q ts))
 
 abbrev pub tested : Quantifier → List ℕ → Meaning → Bindings → Datum → Outcome Datum
-tested q name test s v = and_then (as_coll v) (λ xs. and_then (decided q name test s xs) (λ answer. Value (Truth answer)))
+tested q name test s v =
+    and_then (as_coll v) (λ xs. and_then (decided q name test s xs) (λ answer. Value (Truth answer)))
 
 -- exists, for all
 abbrev pub quantified : Quantifier → NamedMeaning → Meaning → Meaning

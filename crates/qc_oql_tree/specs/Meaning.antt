@@ -8,17 +8,18 @@ use Rattle.qc_ops.specs.Texts.{likeness}
 use Rattle.qc_types.specs.Schemas.{WorldOf}
 use Rattle.qc_oql_tree.specs.declared.tree.Oql.{Oql}
 use Rattle.qc_oql_tree.specs.declared.tree.Oql.TheOpen.{Oql-F, Filter-F, Key-F, Named-F, Order-F, Select-F}
-use Rattle.qc_oql_tree.specs.declared.tree.Oql.TheFolds.{fold-Oql, fold-Filter, fold-Key, fold-Named, fold-Order, fold-Select}
+use Rattle.qc_oql_tree.specs.declared.tree.Oql.TheFolds.{fold-Oql, fold-Filter, fold-Key, fold-Named, fold-Order}
+use Rattle.qc_oql_tree.specs.declared.tree.Oql.TheFolds.{fold-Select}
 use Rattle.qc_oql_tree.specs.declared.tree.Filter.{Filter}
 use Rattle.qc_oql_tree.specs.declared.tree.Key.{Key}
 use Rattle.qc_oql_tree.specs.declared.tree.Named.{Named}
 use Rattle.qc_oql_tree.specs.declared.tree.Order.{Order}
 use Rattle.qc_oql_tree.specs.declared.tree.Query.{Query}
 use Rattle.qc_oql_tree.specs.declared.tree.Select.{Select}
-use Rattle.qc_oql_eval.specs.Bindings.{Meaning, value_of}
-use Rattle.qc_oql_eval.specs.Forms.{NamedMeaning, constant, after, by_pairing, matched, chosen, quantified, collected, structured}
-use Rattle.qc_oql_eval.specs.Operators.{one_value, pairing_of, divided, branded}
-use Rattle.qc_oql_eval.specs.Selecting.{KeyMeaning, selected}
+use Rattle.qc_oql_tree.specs.Bindings.{Meaning, value_of}
+use Rattle.qc_oql_tree.specs.OperatorMeanings.{after, one_value, of_two, divided, branded}
+use Rattle.qc_oql_tree.specs.FormMeanings.{NamedMeaning, constant, matched, chosen, quantified, collected, structured}
+use Rattle.qc_oql_tree.specs.SelectMeaning.{KeyMeaning, selected}
 
 -- an expression, by the meanings of its parts
 abbrev pub form : Mode → WorldOf → Oql-F Meaning Meaning KeyMeaning NamedMeaning (List KeyMeaning) Meaning → Meaning
@@ -29,7 +30,7 @@ form m w (Oql-F.Constant at c) = λ s. Value (constant c)
 form m w (Oql-F.Struct at fields) = structured fields
 form m w (Oql-F.Bag at members) = collected members
 form m w (Oql-F.Unary at op a) = after (one_value m w.classes op) a
-form m w (Oql-F.Binary at op a b) = by_pairing m (pairing_of op) a b
+form m w (Oql-F.Binary at op a b) = of_two m op a b
 form m w (Oql-F.Divide at division a k) = after (divided m w.classes division k) a
 form m w (Oql-F.Like at a pattern) = after (likeness pattern) a
 form m w (Oql-F.Dot at a label) = after (field label) a
@@ -62,23 +63,35 @@ select_form x = selected x.distinct x.value x.sources x.filter x.order
 module _ (m : Mode) (w : WorldOf) where
   -- the outcome of an expression in a mode and a world, by its bindings
   abbrev pub oql : Oql → Meaning
-  oql x = fold-Oql Meaning Meaning KeyMeaning NamedMeaning (List KeyMeaning) Meaning (form m w) filter_form key_form named_form order_form select_form x
+  oql x =
+      fold-Oql Meaning Meaning KeyMeaning NamedMeaning (List KeyMeaning) Meaning
+      (form m w) filter_form key_form named_form order_form select_form x
 
   -- the same of the structs of trees
   abbrev pub filter : Filter → Meaning
-  filter x = fold-Filter Meaning Meaning KeyMeaning NamedMeaning (List KeyMeaning) Meaning (form m w) filter_form key_form named_form order_form select_form x
+  filter x =
+      fold-Filter Meaning Meaning KeyMeaning NamedMeaning (List KeyMeaning) Meaning
+      (form m w) filter_form key_form named_form order_form select_form x
 
   abbrev pub key : Key → KeyMeaning
-  key x = fold-Key Meaning Meaning KeyMeaning NamedMeaning (List KeyMeaning) Meaning (form m w) filter_form key_form named_form order_form select_form x
+  key x =
+      fold-Key Meaning Meaning KeyMeaning NamedMeaning (List KeyMeaning) Meaning
+      (form m w) filter_form key_form named_form order_form select_form x
 
   abbrev pub named : Named → NamedMeaning
-  named x = fold-Named Meaning Meaning KeyMeaning NamedMeaning (List KeyMeaning) Meaning (form m w) filter_form key_form named_form order_form select_form x
+  named x =
+      fold-Named Meaning Meaning KeyMeaning NamedMeaning (List KeyMeaning) Meaning
+      (form m w) filter_form key_form named_form order_form select_form x
 
   abbrev pub order : Order → List KeyMeaning
-  order x = fold-Order Meaning Meaning KeyMeaning NamedMeaning (List KeyMeaning) Meaning (form m w) filter_form key_form named_form order_form select_form x
+  order x =
+      fold-Order Meaning Meaning KeyMeaning NamedMeaning (List KeyMeaning) Meaning
+      (form m w) filter_form key_form named_form order_form select_form x
 
   abbrev pub select : Select → Meaning
-  select x = fold-Select Meaning Meaning KeyMeaning NamedMeaning (List KeyMeaning) Meaning (form m w) filter_form key_form named_form order_form select_form x
+  select x =
+      fold-Select Meaning Meaning KeyMeaning NamedMeaning (List KeyMeaning) Meaning
+      (form m w) filter_form key_form named_form order_form select_form x
 
 -- the expression with what is defined, each definition with the earlier ones
 abbrev pub defined : List NamedMeaning → Meaning → Meaning

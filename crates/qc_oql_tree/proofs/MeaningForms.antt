@@ -1,18 +1,18 @@
 -- What each form of a query means, by its parts.
-use Rattle.std.proofs.Common.{◌≡◌, ℕ, ℤ, Bool, List, [], ◌∷◌, map, rules, refl, sym, ap, ◌∙◌}
+use Rattle.std.proofs.Common.{◌≡◌, ℕ, ℤ, Bool, List, map, rules, sym, ap, ◌∙◌}
 use Rattle.std.specs.Prelude.{Option, Some, None, option_map}
-use Rattle.qc_data.specs.Outcome.{Mode, Value, each}
-use Rattle.qc_data.specs.declared.data.Datum.{Datum, the_lemmas as datum_lemmas}
+use Rattle.qc_data.specs.Outcome.{Mode, Value}
 use Rattle.qc_data.specs.declared.data.Datum.TheVariants.{Int, Text}
-use Rattle.qc_ops.specs.Operands.{only_if}
 use Rattle.qc_ops.specs.Records.{field}
 use Rattle.qc_ops.specs.Texts.{likeness}
 use Rattle.qc_types.specs.Schemas.{WorldOf}
 use Rattle.qc_oql_tree.specs.declared.tree.Oql.{Oql}
 use Rattle.qc_oql_tree.specs.declared.tree.Oql.TheVariants as tree
 use Rattle.qc_oql_tree.specs.declared.tree.Oql.TheOpen.{Oql-F, Select-F}
-use Rattle.qc_oql_tree.specs.declared.tree.Oql.TheViews.{roll-Oql, roll-Select, out-Filter, out-Key, out-Named, out-Order, out-Select, the_lemmas}
-use Rattle.qc_oql_tree.specs.declared.tree.Oql.TheFolds.{fold-roll-Oql, fold-roll-Select, fold_out-Filter, fold_out-Key, fold_out-Named, fold_out-Order, map-Oql}
+use Rattle.qc_oql_tree.specs.declared.tree.Oql.TheViews.{roll-Oql, roll-Select, out-Filter, out-Key, out-Named}
+use Rattle.qc_oql_tree.specs.declared.tree.Oql.TheViews.{out-Order, out-Select, the_lemmas}
+use Rattle.qc_oql_tree.specs.declared.tree.Oql.TheFolds.{fold-roll-Oql, fold-roll-Select, fold_out-Filter, fold_out-Key}
+use Rattle.qc_oql_tree.specs.declared.tree.Oql.TheFolds.{fold_out-Named, fold_out-Order, map-Oql}
 use Rattle.qc_oql_tree.specs.declared.tree.Filter.{Filter}
 use Rattle.qc_oql_tree.specs.declared.tree.Key.{Key}
 use Rattle.qc_oql_tree.specs.declared.tree.Named.{Named}
@@ -24,11 +24,12 @@ use Rattle.qc_oql_tree.specs.declared.tree.Constant.{Constant}
 use Rattle.qc_oql_tree.specs.declared.tree.Division.{Division}
 use Rattle.qc_oql_tree.specs.declared.tree.Quantifier.{Quantifier}
 use Rattle.qc_oql_tree.specs.declared.tree.Unary.{Unary}
-use Rattle.qc_oql_eval.specs.Bindings.{Bindings, Meaning, value_of}
-use Rattle.qc_oql_eval.specs.Forms.{NamedMeaning, constant, after, by_pairing, matched, chosen, quantified, collected, structured}
-use Rattle.qc_oql_eval.specs.Operators.{one_value, pairing_of, divided, branded}
-use Rattle.qc_oql_eval.specs.Selecting.{KeyMeaning, KeyedRow, are_sortable, directions, keyed, ordered_by, selected, sorted}
-use Rattle.qc_oql_eval.specs.Meaning.{form, filter_form, key_form, named_form, order_form, select_form, oql, filter, key, named, order, select}
+use Rattle.qc_oql_tree.specs.Bindings.{Bindings, Meaning, value_of}
+use Rattle.qc_oql_tree.specs.FormMeanings.{NamedMeaning, constant, matched, chosen, quantified, collected, structured}
+use Rattle.qc_oql_tree.specs.OperatorMeanings.{after, one_value, of_two, divided, branded}
+use Rattle.qc_oql_tree.specs.SelectMeaning.{KeyMeaning, selected}
+use Rattle.qc_oql_tree.specs.Meaning.{form, filter_form, key_form, named_form, order_form, select_form, oql, filter}
+use Rattle.qc_oql_tree.specs.Meaning.{key, named, order, select}
 
 module _ (m : Mode) (w : WorldOf) where
   layer : (x : Oql-F Oql Filter Key Named Order Select) (t : Oql) → roll-Oql x ≡ t
@@ -56,7 +57,7 @@ module _ (m : Mode) (w : WorldOf) where
   pub oql-Unary : (at : ℕ) (op : Unary) (a : Oql) → oql m w (tree.Unary at op a) ≡ after (one_value m w.classes op) (oql m w a)
   oql-Unary at op a = layer (Oql-F.Unary at op a) (tree.Unary at op a) (search (rules, the_lemmas))
 
-  pub oql-Binary : (at : ℕ) (op : Binary) (a b : Oql) → oql m w (tree.Binary at op a b) ≡ by_pairing m (pairing_of op) (oql m w a) (oql m w b)
+  pub oql-Binary : (at : ℕ) (op : Binary) (a b : Oql) → oql m w (tree.Binary at op a b) ≡ of_two m op (oql m w a) (oql m w b)
   oql-Binary at op a b = layer (Oql-F.Binary at op a b) (tree.Binary at op a b) (search (rules, the_lemmas))
 
   pub oql-Divide : (at : ℕ) (d : Division) (a : Oql) (k : ℤ) → oql m w (tree.Divide at d a k) ≡ after (divided m w.classes d k) (oql m w a)
@@ -114,17 +115,3 @@ module _ (m : Mode) (w : WorldOf) where
   pub select_is : (x : Select)
       → select m w x ≡ selected (out-Select x).distinct (oql m w (out-Select x).value) (map (named m w) (out-Select x).sources) (option_map (filter m w) (out-Select x).filter) (option_map (order m w) (out-Select x).order)
   select_is x = let e : x ≡ roll-Select (out-Select x) = search (rules, the_lemmas) in ap (select m w) e ∙ select_roll (out-Select x)
-
-  -- ---- keys
-
-  directions_is : (keys : List Key) → map (λ key. key.1) (map (key m w) keys) ≡ directions keys
-  directions_is [] = refl
-  directions_is (k ∷ keys) = let e = directions_is keys in rw (key_is k, e) refl
-
-  pub ordered_by_is : (keys : List Key) (s : Bindings) (rows : List Bindings) (ks : List KeyedRow) → each (keyed (map (key m w) keys) s) rows ≡ Value ks
-      → ordered_by (map (key m w) keys) s rows ≡ only_if (are_sortable 0 (directions keys) ks) (Value (map (λ row. row.1) (sorted (directions keys) ks)))
-  unfolding ordered_by
-  ordered_by_is keys s rows ks e = rw (e, directions_is keys) refl
-
--- the layers of trees and of data
-pub ruleset layers = (the_lemmas, datum_lemmas)

@@ -8,16 +8,18 @@ use Rattle.qc_typing.specs.Checking.{and_check}
 use Rattle.qc_typing.specs.Tables.{unary_type}
 use Rattle.qc_oql_tree.specs.declared.tree.Oql.{Oql}
 use Rattle.qc_oql_tree.specs.declared.tree.Oql.TheOpen.{Oql-F, Filter-F, Key-F, Named-F, Order-F, Select-F}
-use Rattle.qc_oql_tree.specs.declared.tree.Oql.TheFolds.{fold-Oql, fold-Filter, fold-Key, fold-Named, fold-Order, fold-Select}
+use Rattle.qc_oql_tree.specs.declared.tree.Oql.TheFolds.{fold-Oql, fold-Filter, fold-Key, fold-Named, fold-Order}
+use Rattle.qc_oql_tree.specs.declared.tree.Oql.TheFolds.{fold-Select}
 use Rattle.qc_oql_tree.specs.declared.tree.Filter.{Filter}
 use Rattle.qc_oql_tree.specs.declared.tree.Key.{Key}
 use Rattle.qc_oql_tree.specs.declared.tree.Named.{Named}
 use Rattle.qc_oql_tree.specs.declared.tree.Order.{Order}
 use Rattle.qc_oql_tree.specs.declared.tree.Query.{Query}
 use Rattle.qc_oql_tree.specs.declared.tree.Select.{Select}
-use Rattle.qc_oql_eval.specs.Operators.{on_one, pairing_of}
-use Rattle.qc_oql_check.specs.Forms.{Typing, NamedTyping, FilterTyping, OrderTyping, type_of, type_after, type_of_both, matched_type, chosen_type, quantified_type, collected_type, structured_type, selected_type}
-use Rattle.qc_oql_check.specs.Parts.{constant_type, type_at_one, type_by_pairing, divided_type, field_type, branded_type}
+use Rattle.qc_oql_tree.specs.FormTypings.{Typing, NamedTyping, FilterTyping, OrderTyping, type_of, type_after}
+use Rattle.qc_oql_tree.specs.FormTypings.{type_of_both, matched_type, chosen_type, quantified_type, collected_type}
+use Rattle.qc_oql_tree.specs.FormTypings.{structured_type, selected_type}
+use Rattle.qc_oql_tree.specs.OperatorTypes.{constant_type, one_type, two_type, divided_type, field_type, branded_type}
 
 -- an expression, by the typings of its parts
 abbrev pub form_type : SchemaOf → Oql-F Typing FilterTyping Typing NamedTyping OrderTyping Typing → Typing
@@ -27,8 +29,8 @@ form_type schema (Oql-F.Text at text) = λ s. Ok ty.Text
 form_type schema (Oql-F.Constant at constant) = λ s. Ok (constant_type constant)
 form_type schema (Oql-F.Struct at fields) = structured_type fields
 form_type schema (Oql-F.Bag at members) = collected_type schema.classes at members
-form_type schema (Oql-F.Unary at op a) = type_after at (type_at_one schema.classes (on_one op)) a
-form_type schema (Oql-F.Binary at op a b) = type_of_both at (type_by_pairing schema.classes (pairing_of op)) a b
+form_type schema (Oql-F.Unary at op a) = type_after at (one_type schema.classes op) a
+form_type schema (Oql-F.Binary at op a b) = type_of_both at (two_type schema.classes op) a b
 form_type schema (Oql-F.Divide at division a k) = type_after at (divided_type schema.classes division k) a
 form_type schema (Oql-F.Like at a pattern) = type_after at (unary_type schema.classes (one.Like pattern)) a
 form_type schema (Oql-F.Dot at a label) = type_after at (field_type schema.classes label) a
@@ -61,23 +63,35 @@ select_typing schema x = selected_type schema.classes x.value x.sources x.filter
 module _ (schema : SchemaOf) where
   -- the type of an expression by the types of what is bound, or the place of its first fault
   abbrev pub oql_type : Oql → Typing
-  oql_type x = fold-Oql Typing FilterTyping Typing NamedTyping OrderTyping Typing (form_type schema) filter_typing key_typing named_typing order_typing (select_typing schema) x
+  oql_type x =
+      fold-Oql Typing FilterTyping Typing NamedTyping OrderTyping Typing
+      (form_type schema) filter_typing key_typing named_typing order_typing (select_typing schema) x
 
   -- the same of the structs of trees
   abbrev pub filter_type : Filter → FilterTyping
-  filter_type x = fold-Filter Typing FilterTyping Typing NamedTyping OrderTyping Typing (form_type schema) filter_typing key_typing named_typing order_typing (select_typing schema) x
+  filter_type x =
+      fold-Filter Typing FilterTyping Typing NamedTyping OrderTyping Typing
+      (form_type schema) filter_typing key_typing named_typing order_typing (select_typing schema) x
 
   abbrev pub key_type : Key → Typing
-  key_type x = fold-Key Typing FilterTyping Typing NamedTyping OrderTyping Typing (form_type schema) filter_typing key_typing named_typing order_typing (select_typing schema) x
+  key_type x =
+      fold-Key Typing FilterTyping Typing NamedTyping OrderTyping Typing
+      (form_type schema) filter_typing key_typing named_typing order_typing (select_typing schema) x
 
   abbrev pub named_type : Named → NamedTyping
-  named_type x = fold-Named Typing FilterTyping Typing NamedTyping OrderTyping Typing (form_type schema) filter_typing key_typing named_typing order_typing (select_typing schema) x
+  named_type x =
+      fold-Named Typing FilterTyping Typing NamedTyping OrderTyping Typing
+      (form_type schema) filter_typing key_typing named_typing order_typing (select_typing schema) x
 
   abbrev pub order_type : Order → OrderTyping
-  order_type x = fold-Order Typing FilterTyping Typing NamedTyping OrderTyping Typing (form_type schema) filter_typing key_typing named_typing order_typing (select_typing schema) x
+  order_type x =
+      fold-Order Typing FilterTyping Typing NamedTyping OrderTyping Typing
+      (form_type schema) filter_typing key_typing named_typing order_typing (select_typing schema) x
 
   abbrev pub select_type : Select → Typing
-  select_type x = fold-Select Typing FilterTyping Typing NamedTyping OrderTyping Typing (form_type schema) filter_typing key_typing named_typing order_typing (select_typing schema) x
+  select_type x =
+      fold-Select Typing FilterTyping Typing NamedTyping OrderTyping Typing
+      (form_type schema) filter_typing key_typing named_typing order_typing (select_typing schema) x
 
 -- the expression with what is defined, each definition with the earlier ones
 abbrev pub defined_type : List NamedTyping → Typing → Typing

@@ -15,13 +15,21 @@ use Rattle.qc_oql_tree.specs.declared.tree.Branding.{Branding}
 use Rattle.qc_oql_tree.specs.declared.tree.Direction.{Direction}
 use Rattle.qc_oql_tree.specs.declared.tree.Division.{Division}
 use Rattle.qc_oql_tree.specs.declared.tree.Quantifier.{Quantifier}
-use Rattle.qc_oql_eval.specs.Bindings.{Bindings, Meaning}
-use Rattle.qc_oql_eval.specs.Forms.{NamedMeaning, after, both, side_at, by_side, or_else, by_pairing, bound, matched, truth, chosen, decided, tested, quantified, collected, field_of, structured}
-use Rattle.qc_oql_eval.specs.Meaning.{defined}
-use Rattle.qc_oql_eval.specs.Operators.{at_one, paired, is_divisor, divided, division, name_of, branded, branding}
-use Rattle.qc_oql_eval.specs.Selecting.{KeyMeaning, KeyedRow, source_items, rows_with, extended, rows_from, kept_row, filtered, key_values, keyed, are_sortable, sorted, ordered_by, ordered, selected}
-use Rattle.qc_oql_eval.specs.declared.operators.Pairing.{Pairing}
-use Rattle.qc_oql_eval.specs.declared.operators.Pairing.TheVariants as pairing
+use Rattle.qc_oql_tree.specs.declared.tree.Unary.{Unary}
+use Rattle.qc_oql_tree.specs.declared.tree.Binary.{Binary}
+use Rattle.qc_oql_tree.specs.Bindings.{Bindings, Meaning}
+use Rattle.qc_oql_tree.specs.FormMeanings.{NamedMeaning, bound, matched, truth, chosen, decided, tested, quantified}
+use Rattle.qc_oql_tree.specs.FormMeanings.{collected, field_of, structured}
+use Rattle.qc_oql_tree.specs.OperatorMeanings.{after, one_value, of_two, both, side_at, by_side, or_else, is_divisor}
+use Rattle.qc_oql_tree.specs.OperatorMeanings.{divided, division, name_of, branded, branding}
+use Rattle.qc_oql_tree.specs.inner.Pairings.{on_one, at_one, pairing_of, by_pairing, paired}
+use Rattle.qc_oql_tree.specs.Meaning.{defined}
+use Rattle.qc_oql_tree.specs.SelectMeaning.{KeyMeaning, KeyedRow, source_items, rows_with, extended, rows_from}
+use Rattle.qc_oql_tree.specs.SelectMeaning.{kept_row, filtered, key_values, keyed, are_sortable, sorted, ordered_by}
+use Rattle.qc_oql_tree.specs.SelectMeaning.{ordered, selected}
+use Rattle.qc_oql_tree.specs.declared.pairing.Pairing.{Pairing}
+use Rattle.qc_oql_tree.specs.declared.pairing.Pairing.TheVariants as pairing
+use Rattle.qc_oql_tree.proofs.Pairings.{one_is, two_is}
 use Rattle.qc_ops.specs.declared.op.Unary.{Unary as OnOne}
 
 -- ---- what agrees
@@ -90,18 +98,24 @@ agrees_only true o p h = h
 agrees_only {A = A} false o p h = agrees_same {A = A} (Halts Stuck)
 
 module _ (lo hi : ℤ) where
-  pub agrees_one : (c : Defs) (op : Option OnOne) (x : Datum) → Agrees (at_one any_size c op x) (at_one (within lo hi) c op x)
+  agrees_one : (c : Defs) (op : Option OnOne) (x : Datum) → Agrees (at_one any_size c op x) (at_one (within lo hi) c op x)
   agrees_one c None x = agrees_same (at_one any_size c None x)
   agrees_one c (Some op) x = agrees_unary lo hi c op x
+
+  pub agrees_value : (c : Defs) (op : Unary) (x : Datum) → Agrees (one_value any_size c op x) (one_value (within lo hi) c op x)
+  agrees_value c op x = rw (one_is any_size c op x, one_is (within lo hi) c op x) (agrees_one c (on_one op) x)
 
   agrees_paired : (p : Pairing) (x y : Datum) → Agrees (paired any_size p x y) (paired (within lo hi) p x y)
   agrees_paired (pairing.Plain op) x y = agrees_binary lo hi op x y
   agrees_paired (pairing.Exchanged op) x y = agrees_binary lo hi op y x
   agrees_paired pairing.Unequal x y = agrees_same (paired any_size pairing.Unequal x y)
 
-  pub agrees_pairing : (p : Option Pairing) (a b c d : Meaning) → AgreesM a c → AgreesM b d → AgreesM (by_pairing any_size p a b) (by_pairing (within lo hi) p c d)
+  agrees_pairing : (p : Option Pairing) (a b c d : Meaning) → AgreesM a c → AgreesM b d → AgreesM (by_pairing any_size p a b) (by_pairing (within lo hi) p c d)
   agrees_pairing None a b c d h k = agrees_or_else a b c d h k
   agrees_pairing (Some p) a b c d h k = agrees_both (paired any_size p) (paired (within lo hi) p) a b c d (agrees_paired p) h k
+
+  pub agrees_two : (op : Binary) (a b c d : Meaning) → AgreesM a c → AgreesM b d → AgreesM (of_two any_size op a b) (of_two (within lo hi) op c d)
+  agrees_two op a b c d h k s = rw (two_is any_size op a b s, two_is (within lo hi) op c d s) (agrees_pairing (pairing_of op) a b c d h k s)
 
   pub agrees_divided : (c : Defs) (d : Division) (k : ℤ) (x : Datum) → Agrees (divided any_size c d k x) (divided (within lo hi) c d k x)
   agrees_divided c d k x = agrees_only (is_divisor k) (unary any_size c (division d k) x) (unary (within lo hi) c (division d k) x) (agrees_unary lo hi c (division d k) x)
@@ -193,7 +207,7 @@ agrees_keyed xs ys s row z = agrees_then (key_values xs (row ++ s)) (key_values 
 
 -- the rows in order, if each key's values are of one kind
 abbrev finish : List Direction → List KeyedRow → Outcome (List Bindings)
-finish directions rows = only_if (are_sortable 0 directions rows) (Value (map (λ row. row.1) (sorted directions rows)))
+finish directions rows = only_if (are_sortable directions (map (λ row. row.0) rows)) (Value (map (λ row. row.1) (sorted directions rows)))
 
 agrees_ordered_by : (xs ys : List KeyMeaning) (s : Bindings) (rows : List Bindings) → Zip AgreesK xs ys → Agrees (ordered_by xs s rows) (ordered_by ys s rows)
 unfolding ordered_by

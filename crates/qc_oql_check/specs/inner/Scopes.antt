@@ -5,8 +5,8 @@ use Rattle.qc_data.specs.Pairs.{lookup, put}
 use Rattle.qc_types.specs.declared.ty.Ty.{Ty}
 use Rattle.qc_typing.specs.declared.fault.TypeFault.{TypeFault}
 use Rattle.qc_typing.specs.declared.fault.TypeFault.TheVariants as fault
-use Rattle.qc_oql_check.specs.Forms.{Types}
-use Rattle.qc_oql_check.specs.Parts.{FieldType}
+use Rattle.qc_oql_tree.specs.FormTypings.{Types}
+use Rattle.qc_oql_tree.specs.PartTypes.{FieldType}
 use Rattle.qc_oql_check.specs.declared.record.TypedField.{TypedField}
 use Rattle.qc_oql_check.specs.declared.scope.Scope.{Scope}
 use Rattle.qc_oql_check.specs.declared.scope.Scope.TheVariants as scope

@@ -1,4 +1,5 @@
--- The types of the forms of expressions, by those of their parts. The parts are checked before the form, in the order of the
+-- The types of the forms of expressions, by those of their parts. The parts are checked before the form, in the order
+-- of the
 -- text, but a condition on which a binding rests is checked before what is bound.
 use Rattle.std.specs.Prelude.{ℕ, List, [], ◌∷◌, Option, Some, None, Result, Ok, option_map}
 use Rattle.qc_data.specs.Pairs.{lookup}
@@ -12,8 +13,8 @@ use Rattle.qc_types.specs.Types.{sub}
 use Rattle.qc_typing.specs.Checking.{and_check, or_fault, need, each_checked}
 use Rattle.qc_typing.specs.Kinds.{when}
 use Rattle.qc_typing.specs.Rows.{is_atom}
-use Rattle.qc_oql_eval.specs.Bindings.{or_else_some}
-use Rattle.qc_oql_check.specs.Parts.{bound_by, sides_of, join_all, FieldType, row_of}
+use Rattle.qc_oql_tree.specs.Bindings.{or_else_some}
+use Rattle.qc_oql_tree.specs.PartTypes.{bound_by, sides_of, join_all, FieldType, row_of}
 
 -- variables and definitions with their types, the newest first
 abbrev pub Types : Type 0
@@ -54,23 +55,37 @@ type_of_both at f a b s = and_check (a s) (λ t. and_check (b s) (λ u. or_fault
 -- match: the join of the two bodies, each with its name bound to the side's type
 abbrev pub matched_type : Defs → ℕ → Typing → NamedTyping → NamedTyping → Typing
 matched_type c at a l r s =
-    and_check (a s) (λ t. and_check (or_fault at (sides_of t)) (λ sides. and_check (l.of ((l.name, sides.0) ∷ s)) (λ x. and_check (r.of ((r.name, sides.1) ∷ s)) (λ y. or_fault at (join c x y)))))
+    and_check (a s) (λ t.
+    and_check (or_fault at (sides_of t)) (λ sides.
+    and_check (l.of ((l.name, sides.0) ∷ s)) (λ x.
+    and_check (r.of ((r.name, sides.1) ∷ s)) (λ y.
+    or_fault at (join c x y)))))
 
 -- if: the join of the branches
 abbrev pub chosen_type : Defs → ℕ → Typing → Typing → Typing → Typing
-chosen_type c at test a b s = and_check (test s) (λ t. and_check (a s) (λ x. and_check (b s) (λ y. and_check (need at (sub c t ty.Bool)) (λ done. or_fault at (join c x y)))))
+chosen_type c at test a b s =
+    and_check (test s) (λ t.
+    and_check (a s) (λ x.
+    and_check (b s) (λ y.
+    and_check (need at (sub c t ty.Bool)) (λ done.
+    or_fault at (join c x y)))))
 
 -- what a source binds; one that is no collection is a fault at the bound name
 abbrev pub source_type : NamedTyping → Typing
 source_type source s = and_check (source.of s) (λ t. or_fault source.at (bound_by t))
 
--- exists, for all
+-- exists, for all: a truth value
 abbrev pub quantified_type : Defs → ℕ → NamedTyping → Typing → Typing
-quantified_type c at source test s = and_check (source_type source s) (λ x. and_check (test ((source.name, x) ∷ s)) (λ t. or_fault at (when (sub c t ty.Bool) ty.Bool)))
+quantified_type c at source test s =
+    and_check (source_type source s) (λ x.
+    and_check (test ((source.name, x) ∷ s)) (λ t.
+    or_fault at (when (sub c t ty.Bool) ty.Bool)))
 
 -- bag: of the join of its members
 abbrev pub collected_type : Defs → ℕ → List Typing → Typing
-collected_type c at members s = and_check (each_checked (λ member. member s) members) (λ ts. or_fault at (option_map (λ t. ty.Coll t) (join_all c ty.Bottom ts)))
+collected_type c at members s =
+    and_check (each_checked (λ member. member s) members) (λ ts.
+    or_fault at (option_map (λ t. ty.Coll t) (join_all c ty.Bottom ts)))
 
 -- a field with its type
 abbrev pub typed_field : Types → NamedTyping → Result FieldType ℕ
@@ -78,14 +93,18 @@ typed_field s f = and_check (f.of s) (λ t. Ok (record { at = f.at; label = f.na
 
 -- struct: the record of exactly its fields
 abbrev pub structured_type : List NamedTyping → Typing
-structured_type fields s = and_check (each_checked (typed_field s) fields) (λ fs. and_check (row_of fs []) (λ row. Ok (ty.Rec Exact row)))
+structured_type fields s =
+    and_check (each_checked (typed_field s) fields) (λ fs.
+    and_check (row_of fs []) (λ row.
+    Ok (ty.Rec Exact row)))
 
 -- ---- the select
 
 -- the sources' names, each bound for the later ones
 abbrev pub sources_bound : List NamedTyping → Types → Result Types ℕ
 sources_bound [] s = Ok s
-sources_bound (source ∷ sources) s = and_check (source_type source s) (λ t. sources_bound sources ((source.name, t) ∷ s))
+sources_bound (source ∷ sources) s =
+    and_check (source_type source s) (λ t. sources_bound sources ((source.name, t) ∷ s))
 
 -- where
 abbrev pub filter_checked : Defs → Option FilterTyping → Types → Result (Unit {0}) ℕ
@@ -95,7 +114,8 @@ filter_checked c (Some filter) s = and_check (filter.test s) (λ t. need filter.
 -- the keys are integers, texts or truth values, each tested before the next one
 abbrev pub keys_checked : Defs → ℕ → List Typing → Types → Result (Unit {0}) ℕ
 keys_checked c at [] s = Ok tt
-keys_checked c at (key ∷ keys) s = and_check (key s) (λ t. and_check (need at (is_atom c t)) (λ done. keys_checked c at keys s))
+keys_checked c at (key ∷ keys) s =
+    and_check (key s) (λ t. and_check (need at (is_atom c t)) (λ done. keys_checked c at keys s))
 
 -- order by
 abbrev pub order_checked : Defs → Option OrderTyping → Types → Result (Unit {0}) ℕ
@@ -105,4 +125,8 @@ order_checked c (Some order) s = keys_checked c order.at order.keys s
 -- a select is checked in the order sources, where, keys, value
 abbrev pub selected_type : Defs → Typing → List NamedTyping → Option FilterTyping → Option OrderTyping → Typing
 selected_type c value sources filter order s =
-    and_check (sources_bound sources s) (λ row. and_check (filter_checked c filter row) (λ kept. and_check (order_checked c order row) (λ sorted. and_check (value row) (λ t. Ok (ty.Coll t)))))
+    and_check (sources_bound sources s) (λ row.
+    and_check (filter_checked c filter row) (λ kept.
+    and_check (order_checked c order row) (λ sorted.
+    and_check (value row) (λ t.
+    Ok (ty.Coll t)))))

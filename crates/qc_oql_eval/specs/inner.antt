@@ -1,0 +1,5 @@
+pub mod Scopes
+pub mod Columns
+pub mod Rows
+pub mod Held
+pub mod SortKinds
