@@ -5,7 +5,7 @@ use Rattle.qc_grammar.proofs.machine.expand.Goals as goal
 pub loop-top-preserved-in-Continue-1 : goal.loop-top-preserved-in-Continue-1
 loop-top-preserved-in-Continue-1 g c = λ kinds rest n r.
     act c.args.grammar.now.rules c.args.grammar.now.choices kinds c.args.at c.in-Action.action c.loop-top.stack c.pop.new.self c.in-Some.top rest c.loop-top.events c.add.new.self
-    c.in-Some.ensures c.in-Action.is c.in_ok-add-in-Action.ensures (c.loop-top.invariant kinds rest n r)
+    c.in-Some.ensures c.in-Action.is c.in_ok-add-in-Action.ensures.ok (c.loop-top.invariant kinds rest n r)
 
 pub loop-top-smaller : goal.loop-top-smaller
 loop-top-smaller g c =
