@@ -33,13 +33,13 @@ module _ {T A : Type 0} (g : Rules) (ok : ℕ → Bool) (fine : grammar_fine ok 
       let more : List T = map sample b.0 in
       let kinds = behind ok (take n (map class ts)) b.0 (word_fine ok g fine 0 (Rule 0 ∷ []) (take n (map class ts) ++ b.0) b.1 b.2 refl) in
       let e : take n (map class ts) ++ b.0 ≡ map class (take n ts ++ more) =
-          ap (λ z. z ++ b.0) (sym (map_take class n ts)) ∙ ap (λ z. map class (take n ts) ++ z) (sym (map_sampled ok class sample sampled b.0 kinds)) ∙ sym (map_append class (take n ts) more) in
+      ap (λ z. z ++ b.0) (sym (map_take class n ts)) ∙ ap (λ z. map class (take n ts) ++ z) (sym (map_sampled ok class sample sampled b.0 kinds)) ∙ sym (map_append class (take n ts) more) in
       (more, value (take n ts ++ more) b.1, record { events = b.1; derives = subst (λ z. Whole g z b.1) e b.2; same = refl })
 
   pub spelled : (ts : List T) (es : List Event) (tree : A) → Spells (Whole g) (map class ts) es → tree ≡ value ts es → Spells (Means g class value) ts tree
   spelled ts es tree s e = record {
     spells = record { events = es; derives = s.spells; same = sym e };
-    only = λ other d. sym d.same ∙ ap (value ts) (s.only d.events d.derives) ∙ sym e
+    only = λ other d. sym d.same ∙ ap (value ts) (s.only d.events d.derives) ∙ sym e;
   }
 
   pub refused : (ts : List T) (at : ℕ) → Refused (Whole g) (map class ts) at → Refused (Means g class value) ts at
@@ -49,8 +49,8 @@ module _ {T A : Type 0} (g : Rules) (ok : ℕ → Bool) (fine : grammar_fine ok 
       within = (let h = r.place.within in omega (arith, map_length class ts));
       before = begins ts at r.place.before;
       whole = λ b. r.place.whole (map class b.0, b.2.events, subst (λ z. Whole g z b.2.events) (map_append class ts b.0) b.2.derives) ∙ map_length class ts;
-      beyond = λ lt b. r.place.beyond (omega (arith, map_length class ts)) (begun ts (at + 1) b)
-    }
+      beyond = λ lt b. r.place.beyond (omega (arith, map_length class ts)) (begun ts (at + 1) b);
+    };
   }
 
   pub faulted : (ts : List T) (f : SyntaxFault) → Parses (Whole g) (map class ts) (Err f) → Parses (Means g class value) ts (Err f)

@@ -85,11 +85,7 @@ fn alternative(rules: &List<List<List<Symbol>>>, rule: u32, number: usize) -> Op
 fn choose(grammar: &Grammar, rule: u32, next: u64) -> Option<&List<Symbol>>
     ensures { option_copied result ≡ spec.choose grammar.now.rules grammar.now.choices rule next }
 {
-    alternative(
-        &grammar.rules,
-        rule,
-        turn(&grammar.choices, rule, next),
-    )
+    alternative(&grammar.rules, rule, turn(&grammar.choices, rule, next))
 }
 
 /// Puts the symbols on the stack, the first one on top.
