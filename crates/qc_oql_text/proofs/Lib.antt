@@ -1,10 +1,2 @@
-mod Alike
-mod Begins
-mod Exactness
-mod Nodes
-mod Optional
-mod Pieces
-mod Scanned
-mod Sizes
-mod Views
-mod Whole
+mod Checked
+mod Notes

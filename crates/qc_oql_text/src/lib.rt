@@ -1,11 +1,7 @@
 //! The text of OQL: the tokens of a scan to the one tree that they spell, or to the place of the fault.
 #![tactic(auto)]
 
-mod atoms;
-mod clauses;
-mod levels;
 mod reader;
-mod rules;
-mod words;
+mod table;
 
-pub use reader::parse;
+pub use reader::read_table;

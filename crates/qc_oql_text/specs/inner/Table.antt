@@ -322,339 +322,339 @@ unfoldable pub grammar : Rules
 grammar =
     -- query =
     ((Action DO_NONE ∷ Rule rule_defines ∷ Rule rule_expr ∷ Rule rule_end ∷ []) ∷
-     []) ∷
+    []) ∷
     -- defines =
     ((Token DEFINE ∷ Token NAME ∷ Action DO_NAME ∷ Token AS ∷ Rule rule_expr ∷ Action DO_ENTRY ∷ Action DO_ITEM ∷
     Token SEMICOLON ∷ Rule rule_defines ∷ []) ∷
-     [] ∷
-     []) ∷
+    [] ∷
+    []) ∷
     -- end =
     ((Token SEMICOLON ∷ []) ∷
-     [] ∷
-     []) ∷
+    [] ∷
+    []) ∷
     -- expr =
     ((Token SELECT ∷ Action DO_MARK ∷ Rule rule_selection ∷ []) ∷
-     (Rule rule_q ∷ []) ∷
-     []) ∷
+    (Rule rule_q ∷ []) ∷
+    []) ∷
     -- selection =
     ((Token DISTINCT ∷ Rule rule_q ∷ Rule rule_sources ∷ Action DO_SELECT_DISTINCT ∷ []) ∷
-     (Rule rule_q_but_distinct ∷ Rule rule_sources ∷ Action DO_SELECT ∷ []) ∷
-     []) ∷
+    (Rule rule_q_but_distinct ∷ Rule rule_sources ∷ Action DO_SELECT ∷ []) ∷
+    []) ∷
     -- sources =
     ((Token FROM ∷ Action DO_NONE ∷ Rule rule_bind ∷ Action DO_ITEM ∷ Rule rule_binds ∷ Rule rule_filter ∷
     Rule rule_order ∷ []) ∷
-     []) ∷
+    []) ∷
     -- binds =
     ((Token COMMA ∷ Rule rule_bind ∷ Action DO_ITEM ∷ Rule rule_binds ∷ []) ∷
-     [] ∷
-     []) ∷
+    [] ∷
+    []) ∷
     -- bind =
     ((Token NAME ∷ Action DO_NAME ∷ Token IN ∷ Rule rule_q ∷ Action DO_ENTRY ∷ []) ∷
-     []) ∷
+    []) ∷
     -- filter =
     ((Token WHERE ∷ Action DO_MARK ∷ Rule rule_q ∷ Action DO_FILTER ∷ []) ∷
-     (Action DO_NO_FILTER ∷ []) ∷
-     []) ∷
+    (Action DO_NO_FILTER ∷ []) ∷
+    []) ∷
     -- order =
     ((Token ORDER ∷ Action DO_MARK ∷ Token BY ∷ Action DO_NO_KEYS ∷ Rule rule_key ∷ Rule rule_keys ∷ Action DO_ORDER ∷
     []) ∷
-     (Action DO_NO_ORDER ∷ []) ∷
-     []) ∷
+    (Action DO_NO_ORDER ∷ []) ∷
+    []) ∷
     -- keys =
     ((Token COMMA ∷ Rule rule_key ∷ Rule rule_keys ∷ []) ∷
-     [] ∷
-     []) ∷
+    [] ∷
+    []) ∷
     -- key =
     ((Rule rule_q ∷ Rule rule_direction ∷ []) ∷
-     []) ∷
+    []) ∷
     -- direction =
     ((Token ASC ∷ Action DO_ASC ∷ []) ∷
-     (Token DESC ∷ Action DO_DESC ∷ []) ∷
-     (Action DO_ASC ∷ []) ∷
-     []) ∷
+    (Token DESC ∷ Action DO_DESC ∷ []) ∷
+    (Action DO_ASC ∷ []) ∷
+    []) ∷
     -- q =
     ((Rule rule_q_head ∷ []) ∷
-     (Rule rule_or_but_exists ∷ []) ∷
-     []) ∷
+    (Rule rule_or_but_exists ∷ []) ∷
+    []) ∷
     -- q_but_distinct =
     ((Rule rule_q_head ∷ []) ∷
-     (Rule rule_or_but_both ∷ []) ∷
-     []) ∷
+    (Rule rule_or_but_both ∷ []) ∷
+    []) ∷
     -- q_head =
     ((Token IF ∷ Action DO_MARK ∷ Rule rule_q ∷ Token THEN ∷ Rule rule_q ∷ Token ELSE ∷ Rule rule_q ∷
     Action DO_IF_ELSE ∷ []) ∷
-     (Token FOR ∷ Action DO_MARK ∷ Token ALL ∷ Rule rule_bind ∷ Token COLON ∷ Rule rule_q ∷ Action DO_FOR_ALL ∷ []) ∷
-     (Token EXISTS ∷ Action DO_MARK ∷ Rule rule_exists_rest ∷ []) ∷
-     []) ∷
+    (Token FOR ∷ Action DO_MARK ∷ Token ALL ∷ Rule rule_bind ∷ Token COLON ∷ Rule rule_q ∷ Action DO_FOR_ALL ∷ []) ∷
+    (Token EXISTS ∷ Action DO_MARK ∷ Rule rule_exists_rest ∷ []) ∷
+    []) ∷
     -- exists_rest =
     ((Rule rule_bind ∷ Token COLON ∷ Rule rule_q ∷ Action DO_EXISTS ∷ []) ∷
-     (Token OPEN ∷ Rule rule_expr ∷ Token CLOSE ∷ Action DO_UNARY ∷ Rule rule_path_tail ∷ Rule rule_product_tail ∷
-     Rule rule_sum_tail ∷ Rule rule_sets_tail ∷ Rule rule_rel_tail ∷ Rule rule_and_tail ∷ Rule rule_or_tail ∷ []) ∷
-     []) ∷
+    (Token OPEN ∷ Rule rule_expr ∷ Token CLOSE ∷ Action DO_UNARY ∷ Rule rule_path_tail ∷ Rule rule_product_tail ∷
+    Rule rule_sum_tail ∷ Rule rule_sets_tail ∷ Rule rule_rel_tail ∷ Rule rule_and_tail ∷ Rule rule_or_tail ∷ []) ∷
+    []) ∷
     -- or_but_exists =
     ((Rule rule_and_but_exists ∷ Rule rule_or_tail ∷ []) ∷
-     []) ∷
+    []) ∷
     -- and_but_exists =
     ((Rule rule_not_but_exists ∷ Rule rule_and_tail ∷ []) ∷
-     []) ∷
+    []) ∷
     -- not_but_exists =
     ((Token NOT ∷ Action DO_MARK ∷ Rule rule_not ∷ Action DO_UNARY ∷ []) ∷
-     (Rule rule_rel_but_exists ∷ []) ∷
-     []) ∷
+    (Rule rule_rel_but_exists ∷ []) ∷
+    []) ∷
     -- rel_but_exists =
     ((Rule rule_sets_but_exists ∷ Rule rule_rel_tail ∷ []) ∷
-     []) ∷
+    []) ∷
     -- sets_but_exists =
     ((Rule rule_sum_but_exists ∷ Rule rule_sets_tail ∷ []) ∷
-     []) ∷
+    []) ∷
     -- sum_but_exists =
     ((Rule rule_product_but_exists ∷ Rule rule_sum_tail ∷ []) ∷
-     []) ∷
+    []) ∷
     -- product_but_exists =
     ((Rule rule_neg_but_exists ∷ Rule rule_product_tail ∷ []) ∷
-     []) ∷
+    []) ∷
     -- neg_but_exists =
     ((Token MINUS ∷ Action DO_MARK ∷ Rule rule_neg ∷ Action DO_UNARY ∷ []) ∷
-     (Rule rule_path_but_exists ∷ []) ∷
-     []) ∷
+    (Rule rule_path_but_exists ∷ []) ∷
+    []) ∷
     -- path_but_exists =
     ((Rule rule_atom_but_exists ∷ Rule rule_path_tail ∷ []) ∷
-     []) ∷
+    []) ∷
     -- or_but_both =
     ((Rule rule_and_but_both ∷ Rule rule_or_tail ∷ []) ∷
-     []) ∷
+    []) ∷
     -- and_but_both =
     ((Rule rule_not_but_both ∷ Rule rule_and_tail ∷ []) ∷
-     []) ∷
+    []) ∷
     -- not_but_both =
     ((Token NOT ∷ Action DO_MARK ∷ Rule rule_not ∷ Action DO_UNARY ∷ []) ∷
-     (Rule rule_rel_but_both ∷ []) ∷
-     []) ∷
+    (Rule rule_rel_but_both ∷ []) ∷
+    []) ∷
     -- rel_but_both =
     ((Rule rule_sets_but_both ∷ Rule rule_rel_tail ∷ []) ∷
-     []) ∷
+    []) ∷
     -- sets_but_both =
     ((Rule rule_sum_but_both ∷ Rule rule_sets_tail ∷ []) ∷
-     []) ∷
+    []) ∷
     -- sum_but_both =
     ((Rule rule_product_but_both ∷ Rule rule_sum_tail ∷ []) ∷
-     []) ∷
+    []) ∷
     -- product_but_both =
     ((Rule rule_neg_but_both ∷ Rule rule_product_tail ∷ []) ∷
-     []) ∷
+    []) ∷
     -- neg_but_both =
     ((Token MINUS ∷ Action DO_MARK ∷ Rule rule_neg ∷ Action DO_UNARY ∷ []) ∷
-     (Rule rule_path_but_both ∷ []) ∷
-     []) ∷
+    (Rule rule_path_but_both ∷ []) ∷
+    []) ∷
     -- path_but_both =
     ((Rule rule_atom_but_both ∷ Rule rule_path_tail ∷ []) ∷
-     []) ∷
+    []) ∷
     -- and =
     ((Rule rule_not ∷ Rule rule_and_tail ∷ []) ∷
-     []) ∷
+    []) ∷
     -- not =
     ((Token NOT ∷ Action DO_MARK ∷ Rule rule_not ∷ Action DO_UNARY ∷ []) ∷
-     (Rule rule_rel ∷ []) ∷
-     []) ∷
+    (Rule rule_rel ∷ []) ∷
+    []) ∷
     -- rel =
     ((Rule rule_sets ∷ Rule rule_rel_tail ∷ []) ∷
-     []) ∷
+    []) ∷
     -- sets =
     ((Rule rule_sum ∷ Rule rule_sets_tail ∷ []) ∷
-     []) ∷
+    []) ∷
     -- sum =
     ((Rule rule_product ∷ Rule rule_sum_tail ∷ []) ∷
-     []) ∷
+    []) ∷
     -- product =
     ((Rule rule_neg ∷ Rule rule_product_tail ∷ []) ∷
-     []) ∷
+    []) ∷
     -- neg =
     ((Token MINUS ∷ Action DO_MARK ∷ Rule rule_neg ∷ Action DO_UNARY ∷ []) ∷
-     (Rule rule_path ∷ []) ∷
-     []) ∷
+    (Rule rule_path ∷ []) ∷
+    []) ∷
     -- path =
     ((Rule rule_atom ∷ Rule rule_path_tail ∷ []) ∷
-     []) ∷
+    []) ∷
     -- or_tail =
     ((Token OR ∷ Action DO_MARK ∷ Rule rule_and ∷ Action DO_BINARY ∷ Rule rule_or_tail ∷ []) ∷
-     [] ∷
-     []) ∷
+    [] ∷
+    []) ∷
     -- and_tail =
     ((Token AND ∷ Action DO_MARK ∷ Rule rule_not ∷ Action DO_BINARY ∷ Rule rule_and_tail ∷ []) ∷
-     [] ∷
-     []) ∷
+    [] ∷
+    []) ∷
     -- rel_tail =
     ((Rule rule_test ∷ Action DO_MARK ∷ Rule rule_sets ∷ Action DO_BINARY ∷ []) ∷
-     (Token LIKE ∷ Action DO_MARK ∷ Token TEXT ∷ Action DO_LIKE ∷ []) ∷
-     [] ∷
-     []) ∷
+    (Token LIKE ∷ Action DO_MARK ∷ Token TEXT ∷ Action DO_LIKE ∷ []) ∷
+    [] ∷
+    []) ∷
     -- sets_tail =
     ((Rule rule_set ∷ Action DO_MARK ∷ Rule rule_sum ∷ Action DO_BINARY ∷ Rule rule_sets_tail ∷ []) ∷
-     [] ∷
-     []) ∷
+    [] ∷
+    []) ∷
     -- sum_tail =
     ((Rule rule_add ∷ Action DO_MARK ∷ Rule rule_product ∷ Action DO_BINARY ∷ Rule rule_sum_tail ∷ []) ∷
-     [] ∷
-     []) ∷
+    [] ∷
+    []) ∷
     -- product_tail =
     ((Token TIMES ∷ Action DO_MARK ∷ Rule rule_neg ∷ Action DO_BINARY ∷ Rule rule_product_tail ∷ []) ∷
-     (Rule rule_division ∷ Action DO_MARK ∷ Rule rule_divisor ∷ Action DO_DIVIDE ∷ Rule rule_product_tail ∷ []) ∷
-     [] ∷
-     []) ∷
+    (Rule rule_division ∷ Action DO_MARK ∷ Rule rule_divisor ∷ Action DO_DIVIDE ∷ Rule rule_product_tail ∷ []) ∷
+    [] ∷
+    []) ∷
     -- divisor =
     ((Token MINUS ∷ Token NONZERO ∷ Action DO_NEGATIVE ∷ []) ∷
-     (Token NONZERO ∷ Action DO_POSITIVE ∷ []) ∷
-     []) ∷
+    (Token NONZERO ∷ Action DO_POSITIVE ∷ []) ∷
+    []) ∷
     -- path_tail =
     ((Token DOT ∷ Rule rule_label ∷ Action DO_DOT ∷ Rule rule_path_tail ∷ []) ∷
-     [] ∷
-     []) ∷
+    [] ∷
+    []) ∷
     -- atom =
     ((Token EXISTS ∷ Action DO_MARK ∷ Token OPEN ∷ Rule rule_expr ∷ Token CLOSE ∷ Action DO_UNARY ∷ []) ∷
-     (Rule rule_atom_but_exists ∷ []) ∷
-     []) ∷
+    (Rule rule_atom_but_exists ∷ []) ∷
+    []) ∷
     -- atom_but_exists =
     ((Token DISTINCT ∷ Action DO_MARK ∷ Token OPEN ∷ Rule rule_expr ∷ Token CLOSE ∷ Action DO_UNARY ∷ []) ∷
-     (Rule rule_atom_but_both ∷ []) ∷
-     []) ∷
+    (Rule rule_atom_but_both ∷ []) ∷
+    []) ∷
     -- atom_but_both =
     ((Rule rule_whole ∷ Action DO_WHOLE ∷ []) ∷
-     (Token TEXT ∷ Action DO_TEXT ∷ []) ∷
-     (Rule rule_constant ∷ Action DO_CONSTANT ∷ []) ∷
-     (Token NAME ∷ Action DO_VARIABLE ∷ []) ∷
-     (Token OPEN ∷ Rule rule_expr ∷ Token CLOSE ∷ []) ∷
-     (Token STRUCT ∷ Action DO_MARK ∷ Token OPEN ∷ Action DO_NONE ∷ Rule rule_fields ∷ Action DO_STRUCT ∷ []) ∷
-     (Token BAG ∷ Action DO_MARK ∷ Token OPEN ∷ Action DO_NO_TREES ∷ Rule rule_members ∷ Action DO_BAG ∷ []) ∷
-     (Rule rule_unary ∷ Action DO_MARK ∷ Token OPEN ∷ Rule rule_expr ∷ Token CLOSE ∷ Action DO_UNARY ∷ []) ∷
-     (Rule rule_binary ∷ Action DO_MARK ∷ Token OPEN ∷ Rule rule_q ∷ Token COMMA ∷ Rule rule_q ∷ Token CLOSE ∷
-     Action DO_BINARY ∷ []) ∷
-     (Rule rule_branding ∷ Action DO_MARK ∷ Token OPEN ∷ Token NAME ∷ Action DO_NAME ∷ Token COMMA ∷ Rule rule_expr ∷
-     Token CLOSE ∷ Action DO_BRAND ∷ []) ∷
-     (Token MATCH ∷ Action DO_MARK ∷ Token OPEN ∷ Rule rule_q ∷ Token COMMA ∷ Token LEFT ∷ Token NAME ∷ Action DO_NAME ∷
-     Token COLON ∷ Rule rule_q ∷ Action DO_ENTRY ∷ Token COMMA ∷ Token RIGHT ∷ Token NAME ∷ Action DO_NAME ∷
-     Token COLON ∷ Rule rule_q ∷ Action DO_ENTRY ∷ Token CLOSE ∷ Action DO_MATCH ∷ []) ∷
-     []) ∷
+    (Token TEXT ∷ Action DO_TEXT ∷ []) ∷
+    (Rule rule_constant ∷ Action DO_CONSTANT ∷ []) ∷
+    (Token NAME ∷ Action DO_VARIABLE ∷ []) ∷
+    (Token OPEN ∷ Rule rule_expr ∷ Token CLOSE ∷ []) ∷
+    (Token STRUCT ∷ Action DO_MARK ∷ Token OPEN ∷ Action DO_NONE ∷ Rule rule_fields ∷ Action DO_STRUCT ∷ []) ∷
+    (Token BAG ∷ Action DO_MARK ∷ Token OPEN ∷ Action DO_NO_TREES ∷ Rule rule_members ∷ Action DO_BAG ∷ []) ∷
+    (Rule rule_unary ∷ Action DO_MARK ∷ Token OPEN ∷ Rule rule_expr ∷ Token CLOSE ∷ Action DO_UNARY ∷ []) ∷
+    (Rule rule_binary ∷ Action DO_MARK ∷ Token OPEN ∷ Rule rule_q ∷ Token COMMA ∷ Rule rule_q ∷ Token CLOSE ∷
+    Action DO_BINARY ∷ []) ∷
+    (Rule rule_branding ∷ Action DO_MARK ∷ Token OPEN ∷ Token NAME ∷ Action DO_NAME ∷ Token COMMA ∷ Rule rule_expr ∷
+    Token CLOSE ∷ Action DO_BRAND ∷ []) ∷
+    (Token MATCH ∷ Action DO_MARK ∷ Token OPEN ∷ Rule rule_q ∷ Token COMMA ∷ Token LEFT ∷ Token NAME ∷ Action DO_NAME ∷
+    Token COLON ∷ Rule rule_q ∷ Action DO_ENTRY ∷ Token COMMA ∷ Token RIGHT ∷ Token NAME ∷ Action DO_NAME ∷
+    Token COLON ∷ Rule rule_q ∷ Action DO_ENTRY ∷ Token CLOSE ∷ Action DO_MATCH ∷ []) ∷
+    []) ∷
     -- fields =
     ((Token CLOSE ∷ []) ∷
-     (Rule rule_field ∷ Action DO_ITEM ∷ Rule rule_more_fields ∷ Token CLOSE ∷ []) ∷
-     []) ∷
+    (Rule rule_field ∷ Action DO_ITEM ∷ Rule rule_more_fields ∷ Token CLOSE ∷ []) ∷
+    []) ∷
     -- more_fields =
     ((Token COMMA ∷ Rule rule_field ∷ Action DO_ITEM ∷ Rule rule_more_fields ∷ []) ∷
-     [] ∷
-     []) ∷
+    [] ∷
+    []) ∷
     -- field =
     ((Rule rule_label ∷ Action DO_NAME ∷ Token COLON ∷ Rule rule_q ∷ Action DO_ENTRY ∷ []) ∷
-     []) ∷
+    []) ∷
     -- members =
     ((Token CLOSE ∷ []) ∷
-     (Rule rule_q ∷ Action DO_TREE_ITEM ∷ Rule rule_more_members ∷ Token CLOSE ∷ []) ∷
-     []) ∷
+    (Rule rule_q ∷ Action DO_TREE_ITEM ∷ Rule rule_more_members ∷ Token CLOSE ∷ []) ∷
+    []) ∷
     -- more_members =
     ((Token COMMA ∷ Rule rule_q ∷ Action DO_TREE_ITEM ∷ Rule rule_more_members ∷ []) ∷
-     [] ∷
-     []) ∷
+    [] ∷
+    []) ∷
     -- whole =
     ((Token ZERO ∷ []) ∷
-     (Token NONZERO ∷ []) ∷
-     []) ∷
+    (Token NONZERO ∷ []) ∷
+    []) ∷
     -- constant =
     ((Token TRUE ∷ []) ∷
-     (Token FALSE ∷ []) ∷
-     (Token NIL ∷ []) ∷
-     []) ∷
+    (Token FALSE ∷ []) ∷
+    (Token NIL ∷ []) ∷
+    []) ∷
     -- set =
     ((Token UNION ∷ []) ∷
-     (Token EXCEPT ∷ []) ∷
-     (Token INTERSECT ∷ []) ∷
-     []) ∷
+    (Token EXCEPT ∷ []) ∷
+    (Token INTERSECT ∷ []) ∷
+    []) ∷
     -- add =
     ((Token PLUS ∷ []) ∷
-     (Token MINUS ∷ []) ∷
-     (Token GLUE ∷ []) ∷
-     []) ∷
+    (Token MINUS ∷ []) ∷
+    (Token GLUE ∷ []) ∷
+    []) ∷
     -- division =
     ((Token DIVIDE ∷ []) ∷
-     (Token MOD ∷ []) ∷
-     []) ∷
+    (Token MOD ∷ []) ∷
+    []) ∷
     -- test =
     ((Token EQUAL ∷ []) ∷
-     (Token NOT_EQUAL ∷ []) ∷
-     (Token LESS ∷ []) ∷
-     (Token AT_MOST ∷ []) ∷
-     (Token GREATER ∷ []) ∷
-     (Token AT_LEAST ∷ []) ∷
-     (Token IN ∷ []) ∷
-     []) ∷
+    (Token NOT_EQUAL ∷ []) ∷
+    (Token LESS ∷ []) ∷
+    (Token AT_MOST ∷ []) ∷
+    (Token GREATER ∷ []) ∷
+    (Token AT_LEAST ∷ []) ∷
+    (Token IN ∷ []) ∷
+    []) ∷
     -- unary =
     ((Token COUNT ∷ []) ∷
-     (Token SUM ∷ []) ∷
-     (Token MIN ∷ []) ∷
-     (Token MAX ∷ []) ∷
-     (Token AVG ∷ []) ∷
-     (Token ELEMENT ∷ []) ∷
-     (Token FLATTEN ∷ []) ∷
-     (Token ABS ∷ []) ∷
-     (Token LEFT ∷ []) ∷
-     (Token RIGHT ∷ []) ∷
-     (Token UNBRAND ∷ []) ∷
-     []) ∷
+    (Token SUM ∷ []) ∷
+    (Token MIN ∷ []) ∷
+    (Token MAX ∷ []) ∷
+    (Token AVG ∷ []) ∷
+    (Token ELEMENT ∷ []) ∷
+    (Token FLATTEN ∷ []) ∷
+    (Token ABS ∷ []) ∷
+    (Token LEFT ∷ []) ∷
+    (Token RIGHT ∷ []) ∷
+    (Token UNBRAND ∷ []) ∷
+    []) ∷
     -- binary =
     ((Token ORELSE ∷ []) ∷
-     (Token LEAST ∷ []) ∷
-     (Token GREATEST ∷ []) ∷
-     []) ∷
+    (Token LEAST ∷ []) ∷
+    (Token GREATEST ∷ []) ∷
+    []) ∷
     -- branding =
     ((Token CAST ∷ []) ∷
-     (Token BRAND ∷ []) ∷
-     []) ∷
+    (Token BRAND ∷ []) ∷
+    []) ∷
     -- label =
     ((Token NAME ∷ []) ∷
-     (Token DEFINE ∷ []) ∷
-     (Token AS ∷ []) ∷
-     (Token SELECT ∷ []) ∷
-     (Token DISTINCT ∷ []) ∷
-     (Token FROM ∷ []) ∷
-     (Token WHERE ∷ []) ∷
-     (Token ORDER ∷ []) ∷
-     (Token BY ∷ []) ∷
-     (Token IN ∷ []) ∷
-     (Token ASC ∷ []) ∷
-     (Token DESC ∷ []) ∷
-     (Token IF ∷ []) ∷
-     (Token THEN ∷ []) ∷
-     (Token ELSE ∷ []) ∷
-     (Token EXISTS ∷ []) ∷
-     (Token FOR ∷ []) ∷
-     (Token ALL ∷ []) ∷
-     (Token TRUE ∷ []) ∷
-     (Token FALSE ∷ []) ∷
-     (Token NIL ∷ []) ∷
-     (Token STRUCT ∷ []) ∷
-     (Token BAG ∷ []) ∷
-     (Token MATCH ∷ []) ∷
-     (Token CAST ∷ []) ∷
-     (Token BRAND ∷ []) ∷
-     (Token OR ∷ []) ∷
-     (Token AND ∷ []) ∷
-     (Token NOT ∷ []) ∷
-     (Token LIKE ∷ []) ∷
-     (Token UNION ∷ []) ∷
-     (Token EXCEPT ∷ []) ∷
-     (Token INTERSECT ∷ []) ∷
-     (Token MOD ∷ []) ∷
-     (Token COUNT ∷ []) ∷
-     (Token SUM ∷ []) ∷
-     (Token MIN ∷ []) ∷
-     (Token MAX ∷ []) ∷
-     (Token AVG ∷ []) ∷
-     (Token ELEMENT ∷ []) ∷
-     (Token FLATTEN ∷ []) ∷
-     (Token ABS ∷ []) ∷
-     (Token LEFT ∷ []) ∷
-     (Token RIGHT ∷ []) ∷
-     (Token UNBRAND ∷ []) ∷
-     (Token ORELSE ∷ []) ∷
-     (Token LEAST ∷ []) ∷
-     (Token GREATEST ∷ []) ∷
-     []) ∷
+    (Token DEFINE ∷ []) ∷
+    (Token AS ∷ []) ∷
+    (Token SELECT ∷ []) ∷
+    (Token DISTINCT ∷ []) ∷
+    (Token FROM ∷ []) ∷
+    (Token WHERE ∷ []) ∷
+    (Token ORDER ∷ []) ∷
+    (Token BY ∷ []) ∷
+    (Token IN ∷ []) ∷
+    (Token ASC ∷ []) ∷
+    (Token DESC ∷ []) ∷
+    (Token IF ∷ []) ∷
+    (Token THEN ∷ []) ∷
+    (Token ELSE ∷ []) ∷
+    (Token EXISTS ∷ []) ∷
+    (Token FOR ∷ []) ∷
+    (Token ALL ∷ []) ∷
+    (Token TRUE ∷ []) ∷
+    (Token FALSE ∷ []) ∷
+    (Token NIL ∷ []) ∷
+    (Token STRUCT ∷ []) ∷
+    (Token BAG ∷ []) ∷
+    (Token MATCH ∷ []) ∷
+    (Token CAST ∷ []) ∷
+    (Token BRAND ∷ []) ∷
+    (Token OR ∷ []) ∷
+    (Token AND ∷ []) ∷
+    (Token NOT ∷ []) ∷
+    (Token LIKE ∷ []) ∷
+    (Token UNION ∷ []) ∷
+    (Token EXCEPT ∷ []) ∷
+    (Token INTERSECT ∷ []) ∷
+    (Token MOD ∷ []) ∷
+    (Token COUNT ∷ []) ∷
+    (Token SUM ∷ []) ∷
+    (Token MIN ∷ []) ∷
+    (Token MAX ∷ []) ∷
+    (Token AVG ∷ []) ∷
+    (Token ELEMENT ∷ []) ∷
+    (Token FLATTEN ∷ []) ∷
+    (Token ABS ∷ []) ∷
+    (Token LEFT ∷ []) ∷
+    (Token RIGHT ∷ []) ∷
+    (Token UNBRAND ∷ []) ∷
+    (Token ORELSE ∷ []) ∷
+    (Token LEAST ∷ []) ∷
+    (Token GREATEST ∷ []) ∷
+    []) ∷
     []
