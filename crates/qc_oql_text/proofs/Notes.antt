@@ -53,7 +53,7 @@ notes =
       weight = 1;
       solid = true;
     } ∷
-    -- binds
+    -- bindings
     record {
       follow = 0 ∷ 7 ∷ 8 ∷ 53 ∷ 57 ∷ [];
       seed = 1;
@@ -61,7 +61,7 @@ notes =
       weight = 1;
       solid = false;
     } ∷
-    -- bind
+    -- binding
     record {
       follow = 0 ∷ 7 ∷ 8 ∷ 53 ∷ 54 ∷ 56 ∷ 57 ∷ [];
       seed = 0;

@@ -18,89 +18,89 @@ DO_NAME = 1
 abbrev pub DO_ENTRY : ℕ
 DO_ENTRY = 2
 
-abbrev pub DO_ITEM : ℕ
-DO_ITEM = 3
-
 abbrev pub DO_MARK : ℕ
-DO_MARK = 4
+DO_MARK = 3
 
 abbrev pub DO_SELECT_DISTINCT : ℕ
-DO_SELECT_DISTINCT = 5
+DO_SELECT_DISTINCT = 4
 
 abbrev pub DO_SELECT : ℕ
-DO_SELECT = 6
+DO_SELECT = 5
 
 abbrev pub DO_FILTER : ℕ
-DO_FILTER = 7
+DO_FILTER = 6
 
 abbrev pub DO_NO_FILTER : ℕ
-DO_NO_FILTER = 8
+DO_NO_FILTER = 7
 
 abbrev pub DO_NO_KEYS : ℕ
-DO_NO_KEYS = 9
+DO_NO_KEYS = 8
 
 abbrev pub DO_ORDER : ℕ
-DO_ORDER = 10
+DO_ORDER = 9
 
 abbrev pub DO_NO_ORDER : ℕ
-DO_NO_ORDER = 11
+DO_NO_ORDER = 10
 
 abbrev pub DO_ASC : ℕ
-DO_ASC = 12
+DO_ASC = 11
 
 abbrev pub DO_DESC : ℕ
-DO_DESC = 13
+DO_DESC = 12
 
 abbrev pub DO_IF_ELSE : ℕ
-DO_IF_ELSE = 14
+DO_IF_ELSE = 13
 
 abbrev pub DO_FOR_ALL : ℕ
-DO_FOR_ALL = 15
+DO_FOR_ALL = 14
 
 abbrev pub DO_EXISTS : ℕ
-DO_EXISTS = 16
+DO_EXISTS = 15
 
 abbrev pub DO_UNARY : ℕ
-DO_UNARY = 17
+DO_UNARY = 16
 
 abbrev pub DO_BINARY : ℕ
-DO_BINARY = 18
+DO_BINARY = 17
 
 abbrev pub DO_LIKE : ℕ
-DO_LIKE = 19
+DO_LIKE = 18
 
 abbrev pub DO_DIVIDE : ℕ
-DO_DIVIDE = 20
+DO_DIVIDE = 19
 
 abbrev pub DO_NEGATIVE : ℕ
-DO_NEGATIVE = 21
+DO_NEGATIVE = 20
 
 abbrev pub DO_POSITIVE : ℕ
-DO_POSITIVE = 22
+DO_POSITIVE = 21
 
 abbrev pub DO_DOT : ℕ
-DO_DOT = 23
+DO_DOT = 22
 
 abbrev pub DO_WHOLE : ℕ
-DO_WHOLE = 24
+DO_WHOLE = 23
 
 abbrev pub DO_TEXT : ℕ
-DO_TEXT = 25
+DO_TEXT = 24
 
 abbrev pub DO_CONSTANT : ℕ
-DO_CONSTANT = 26
+DO_CONSTANT = 25
 
 abbrev pub DO_VARIABLE : ℕ
-DO_VARIABLE = 27
+DO_VARIABLE = 26
 
 abbrev pub DO_STRUCT : ℕ
-DO_STRUCT = 28
+DO_STRUCT = 27
 
-abbrev pub DO_NO_TREES : ℕ
-DO_NO_TREES = 29
+abbrev pub DO_NO_MEMBERS : ℕ
+DO_NO_MEMBERS = 28
 
 abbrev pub DO_BAG : ℕ
-DO_BAG = 30
+DO_BAG = 29
+
+abbrev pub DO_CALL : ℕ
+DO_CALL = 30
 
 abbrev pub DO_BRAND : ℕ
 DO_BRAND = 31
@@ -108,8 +108,8 @@ DO_BRAND = 31
 abbrev pub DO_MATCH : ℕ
 DO_MATCH = 32
 
-abbrev pub DO_TREE_ITEM : ℕ
-DO_TREE_ITEM = 33
+abbrev pub DO_MEMBER : ℕ
+DO_MEMBER = 33
 
 abbrev pub rule_query : ℕ
 rule_query = 0
@@ -129,11 +129,11 @@ rule_selection = 4
 abbrev pub rule_sources : ℕ
 rule_sources = 5
 
-abbrev pub rule_binds : ℕ
-rule_binds = 6
+abbrev pub rule_bindings : ℕ
+rule_bindings = 6
 
-abbrev pub rule_bind : ℕ
-rule_bind = 7
+abbrev pub rule_binding : ℕ
+rule_binding = 7
 
 abbrev pub rule_filter : ℕ
 rule_filter = 8
@@ -324,8 +324,8 @@ grammar =
     ((Action DO_NONE ∷ Rule rule_defines ∷ Rule rule_expr ∷ Rule rule_end ∷ []) ∷
     []) ∷
     -- defines =
-    ((Token DEFINE ∷ Token NAME ∷ Action DO_NAME ∷ Token AS ∷ Rule rule_expr ∷ Action DO_ENTRY ∷ Action DO_ITEM ∷
-    Token SEMICOLON ∷ Rule rule_defines ∷ []) ∷
+    ((Token DEFINE ∷ Token NAME ∷ Action DO_NAME ∷ Token AS ∷ Rule rule_expr ∷ Action DO_ENTRY ∷ Token SEMICOLON ∷
+    Rule rule_defines ∷ []) ∷
     [] ∷
     []) ∷
     -- end =
@@ -341,15 +341,15 @@ grammar =
     (Rule rule_q_but_distinct ∷ Rule rule_sources ∷ Action DO_SELECT ∷ []) ∷
     []) ∷
     -- sources =
-    ((Token FROM ∷ Action DO_NONE ∷ Rule rule_bind ∷ Action DO_ITEM ∷ Rule rule_binds ∷ Rule rule_filter ∷
+    ((Token FROM ∷ Action DO_NONE ∷ Rule rule_binding ∷ Action DO_ENTRY ∷ Rule rule_bindings ∷ Rule rule_filter ∷
     Rule rule_order ∷ []) ∷
     []) ∷
-    -- binds =
-    ((Token COMMA ∷ Rule rule_bind ∷ Action DO_ITEM ∷ Rule rule_binds ∷ []) ∷
+    -- bindings =
+    ((Token COMMA ∷ Rule rule_binding ∷ Action DO_ENTRY ∷ Rule rule_bindings ∷ []) ∷
     [] ∷
     []) ∷
-    -- bind =
-    ((Token NAME ∷ Action DO_NAME ∷ Token IN ∷ Rule rule_q ∷ Action DO_ENTRY ∷ []) ∷
+    -- binding =
+    ((Token NAME ∷ Action DO_NAME ∷ Token IN ∷ Rule rule_q ∷ []) ∷
     []) ∷
     -- filter =
     ((Token WHERE ∷ Action DO_MARK ∷ Rule rule_q ∷ Action DO_FILTER ∷ []) ∷
@@ -383,11 +383,11 @@ grammar =
     -- q_head =
     ((Token IF ∷ Action DO_MARK ∷ Rule rule_q ∷ Token THEN ∷ Rule rule_q ∷ Token ELSE ∷ Rule rule_q ∷
     Action DO_IF_ELSE ∷ []) ∷
-    (Token FOR ∷ Action DO_MARK ∷ Token ALL ∷ Rule rule_bind ∷ Token COLON ∷ Rule rule_q ∷ Action DO_FOR_ALL ∷ []) ∷
+    (Token FOR ∷ Action DO_MARK ∷ Token ALL ∷ Rule rule_binding ∷ Token COLON ∷ Rule rule_q ∷ Action DO_FOR_ALL ∷ []) ∷
     (Token EXISTS ∷ Action DO_MARK ∷ Rule rule_exists_rest ∷ []) ∷
     []) ∷
     -- exists_rest =
-    ((Rule rule_bind ∷ Token COLON ∷ Rule rule_q ∷ Action DO_EXISTS ∷ []) ∷
+    ((Rule rule_binding ∷ Token COLON ∷ Rule rule_q ∷ Action DO_EXISTS ∷ []) ∷
     (Token OPEN ∷ Rule rule_expr ∷ Token CLOSE ∷ Action DO_UNARY ∷ Rule rule_path_tail ∷ Rule rule_product_tail ∷
     Rule rule_sum_tail ∷ Rule rule_sets_tail ∷ Rule rule_rel_tail ∷ Rule rule_and_tail ∷ Rule rule_or_tail ∷ []) ∷
     []) ∷
@@ -524,22 +524,22 @@ grammar =
     (Token NAME ∷ Action DO_VARIABLE ∷ []) ∷
     (Token OPEN ∷ Rule rule_expr ∷ Token CLOSE ∷ []) ∷
     (Token STRUCT ∷ Action DO_MARK ∷ Token OPEN ∷ Action DO_NONE ∷ Rule rule_fields ∷ Action DO_STRUCT ∷ []) ∷
-    (Token BAG ∷ Action DO_MARK ∷ Token OPEN ∷ Action DO_NO_TREES ∷ Rule rule_members ∷ Action DO_BAG ∷ []) ∷
+    (Token BAG ∷ Action DO_MARK ∷ Token OPEN ∷ Action DO_NO_MEMBERS ∷ Rule rule_members ∷ Action DO_BAG ∷ []) ∷
     (Rule rule_unary ∷ Action DO_MARK ∷ Token OPEN ∷ Rule rule_expr ∷ Token CLOSE ∷ Action DO_UNARY ∷ []) ∷
     (Rule rule_binary ∷ Action DO_MARK ∷ Token OPEN ∷ Rule rule_q ∷ Token COMMA ∷ Rule rule_q ∷ Token CLOSE ∷
-    Action DO_BINARY ∷ []) ∷
+    Action DO_CALL ∷ []) ∷
     (Rule rule_branding ∷ Action DO_MARK ∷ Token OPEN ∷ Token NAME ∷ Action DO_NAME ∷ Token COMMA ∷ Rule rule_expr ∷
     Token CLOSE ∷ Action DO_BRAND ∷ []) ∷
     (Token MATCH ∷ Action DO_MARK ∷ Token OPEN ∷ Rule rule_q ∷ Token COMMA ∷ Token LEFT ∷ Token NAME ∷ Action DO_NAME ∷
-    Token COLON ∷ Rule rule_q ∷ Action DO_ENTRY ∷ Token COMMA ∷ Token RIGHT ∷ Token NAME ∷ Action DO_NAME ∷
-    Token COLON ∷ Rule rule_q ∷ Action DO_ENTRY ∷ Token CLOSE ∷ Action DO_MATCH ∷ []) ∷
+    Token COLON ∷ Rule rule_q ∷ Token COMMA ∷ Token RIGHT ∷ Token NAME ∷ Action DO_NAME ∷ Token COLON ∷ Rule rule_q ∷
+    Token CLOSE ∷ Action DO_MATCH ∷ []) ∷
     []) ∷
     -- fields =
     ((Token CLOSE ∷ []) ∷
-    (Rule rule_field ∷ Action DO_ITEM ∷ Rule rule_more_fields ∷ Token CLOSE ∷ []) ∷
+    (Rule rule_field ∷ Rule rule_more_fields ∷ Token CLOSE ∷ []) ∷
     []) ∷
     -- more_fields =
-    ((Token COMMA ∷ Rule rule_field ∷ Action DO_ITEM ∷ Rule rule_more_fields ∷ []) ∷
+    ((Token COMMA ∷ Rule rule_field ∷ Rule rule_more_fields ∷ []) ∷
     [] ∷
     []) ∷
     -- field =
@@ -547,10 +547,10 @@ grammar =
     []) ∷
     -- members =
     ((Token CLOSE ∷ []) ∷
-    (Rule rule_q ∷ Action DO_TREE_ITEM ∷ Rule rule_more_members ∷ Token CLOSE ∷ []) ∷
+    (Rule rule_q ∷ Action DO_MEMBER ∷ Rule rule_more_members ∷ Token CLOSE ∷ []) ∷
     []) ∷
     -- more_members =
-    ((Token COMMA ∷ Rule rule_q ∷ Action DO_TREE_ITEM ∷ Rule rule_more_members ∷ []) ∷
+    ((Token COMMA ∷ Rule rule_q ∷ Action DO_MEMBER ∷ Rule rule_more_members ∷ []) ∷
     [] ∷
     []) ∷
     -- whole =
