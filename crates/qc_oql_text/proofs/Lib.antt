@@ -1,2 +1,4 @@
 mod Checked
 mod Notes
+mod Samples
+mod Scanned

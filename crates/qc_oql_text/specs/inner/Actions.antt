@@ -156,49 +156,49 @@ matched s =
 unfoldable pub act_tree : ℕ → Values → Values
 act_tree a s =
     if eqb a DO_SELECT_DISTINCT then select true s
-    else (if eqb a DO_SELECT then select false s
-    else (if eqb a DO_FILTER then filter s
-    else (if eqb a DO_ORDER then order s
-    else (if eqb a DO_IF_ELSE then if_else s
-    else (if eqb a DO_FOR_ALL then quantified quantifier.ForAll s
-    else (if eqb a DO_EXISTS then quantified quantifier.Exists s
-    else (if eqb a DO_UNARY then unary s
-    else (if eqb a DO_BINARY then binary s
-    else (if eqb a DO_CALL then call s
-    else (if eqb a DO_DIVIDE then divide s
-    else (if eqb a DO_STRUCT then struct s
-    else (if eqb a DO_BAG then bag s
-    else (if eqb a DO_BRAND then brand s
-    else matched s)))))))))))))
+    else if eqb a DO_SELECT then select false s
+    else if eqb a DO_FILTER then filter s
+    else if eqb a DO_ORDER then order s
+    else if eqb a DO_IF_ELSE then if_else s
+    else if eqb a DO_FOR_ALL then quantified quantifier.ForAll s
+    else if eqb a DO_EXISTS then quantified quantifier.Exists s
+    else if eqb a DO_UNARY then unary s
+    else if eqb a DO_BINARY then binary s
+    else if eqb a DO_CALL then call s
+    else if eqb a DO_DIVIDE then divide s
+    else if eqb a DO_STRUCT then struct s
+    else if eqb a DO_BAG then bag s
+    else if eqb a DO_BRAND then brand s
+    else matched s
 
 -- those that begin or grow a list, and those that make a tree
 unfoldable pub act_list : ℕ → Values → Values
 act_list a s =
     if eqb a DO_NONE then Entries [] ∷ s
-    else (if eqb a DO_ENTRY then entry s
-    else (if eqb a DO_NO_MEMBERS then Members [] ∷ s
-    else (if eqb a DO_MEMBER then member s
-    else (if eqb a DO_NO_KEYS then Keys [] ∷ s
-    else (if eqb a DO_ASC then key direction.Asc s
-    else (if eqb a DO_DESC then key direction.Desc s
-    else (if eqb a DO_NO_FILTER then Filtered None ∷ s
-    else (if eqb a DO_NO_ORDER then Ordered None ∷ s
-    else act_tree a s))))))))
+    else if eqb a DO_ENTRY then entry s
+    else if eqb a DO_NO_MEMBERS then Members [] ∷ s
+    else if eqb a DO_MEMBER then member s
+    else if eqb a DO_NO_KEYS then Keys [] ∷ s
+    else if eqb a DO_ASC then key direction.Asc s
+    else if eqb a DO_DESC then key direction.Desc s
+    else if eqb a DO_NO_FILTER then Filtered None ∷ s
+    else if eqb a DO_NO_ORDER then Ordered None ∷ s
+    else act_tree a s
 
 -- an action behind n tokens
 unfoldable pub act : List Lexeme → ℕ → ℕ → Values → Values
 act ts a n s =
     if eqb a DO_MARK then mark ts n s
-    else (if eqb a DO_NAME then name ts n s
-    else (if eqb a DO_VARIABLE then variable ts n s
-    else (if eqb a DO_WHOLE then whole ts n s
-    else (if eqb a DO_TEXT then text ts n s
-    else (if eqb a DO_CONSTANT then constant ts n s
-    else (if eqb a DO_POSITIVE then positive ts n s
-    else (if eqb a DO_NEGATIVE then negative ts n s
-    else (if eqb a DO_DOT then dot ts n s
-    else (if eqb a DO_LIKE then like ts n s
-    else act_list a s)))))))))
+    else if eqb a DO_NAME then name ts n s
+    else if eqb a DO_VARIABLE then variable ts n s
+    else if eqb a DO_WHOLE then whole ts n s
+    else if eqb a DO_TEXT then text ts n s
+    else if eqb a DO_CONSTANT then constant ts n s
+    else if eqb a DO_POSITIVE then positive ts n s
+    else if eqb a DO_NEGATIVE then negative ts n s
+    else if eqb a DO_DOT then dot ts n s
+    else if eqb a DO_LIKE then like ts n s
+    else act_list a s
 
 -- the actions of a derivation, one after the other
 abbrev pub run : List Lexeme → List Event → Values → Values
