@@ -1,4 +1,8 @@
 mod Checked
+mod Closed
 mod Notes
 mod Samples
+mod Same
 mod Scanned
+mod Walks
+mod Words
