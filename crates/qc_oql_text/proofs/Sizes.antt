@@ -1,243 +1,194 @@
--- A query has at most 16 nodes for each token. An expression has one node less, so that what holds it may be a node without a token of its own.
-use Rattle.std.proofs.Common.{◌≡◌, ◌≤◌, ℕ, zero, suc, ◌+◌, true, false, List, [], ◌∷◌, ◌++◌, arith}
+-- A query has at most one node for each token.
+use Rattle.std.proofs.Common.{◌≡◌, ◌≤◌, ℕ, suc, ◌+◌, ◌*◌, List, [], ◌∷◌, ◌++◌, length, arith}
 use Rattle.std.proofs.lemmas.List.Sums.{sum_by-append}
 use Rattle.std.specs.List.{sum_by}
-use Rattle.std.specs.Prelude.{neg_ℤ, Some, None}
-use Rattle.qc_grammar.specs.Parsers as parsers
-use Rattle.qc_grammar.proofs.Sized.{Sized}
-use Rattle.qc_grammar.proofs.Sizes.{sized_pure, sized_wider, sized_deep, sized_then, sized_first, sized_choose, sized_choose_two, sized_chain, sized_list}
+use Rattle.std.specs.Prelude.{ℤ, Bool, Option}
+use Rattle.qc_lex.specs.declared.token.Lexeme.{Lexeme}
+use Rattle.qc_oql_tree.specs.declared.tree.Binary.{Binary}
+use Rattle.qc_oql_tree.specs.declared.tree.Direction.{Direction}
+use Rattle.qc_oql_tree.specs.declared.tree.Filter.{Filter}
+use Rattle.qc_oql_tree.specs.declared.tree.Key.{Key}
+use Rattle.qc_oql_tree.specs.declared.tree.Named.{Named}
 use Rattle.qc_oql_tree.specs.declared.tree.Oql.{Oql}
 use Rattle.qc_oql_tree.specs.declared.tree.Oql.TheVariants as tree
-use Rattle.qc_oql_tree.specs.declared.tree.Named.{Named}
-use Rattle.qc_oql_tree.specs.declared.tree.Unary.TheVariants as unary
+use Rattle.qc_oql_tree.specs.declared.tree.Order.{Order}
+use Rattle.qc_oql_tree.specs.declared.tree.Quantifier.{Quantifier}
 use Rattle.qc_oql_tree.specs.declared.tree.Quantifier.TheVariants as quantifier
-use Rattle.qc_oql_tree.specs.declared.tree.Direction.TheVariants as direction
-use Rattle.qc_oql_text.specs.declared.rules.Rule.{Rule}
-use Rattle.qc_oql_text.specs.declared.rules.Rule.TheVariants as rule
-use Rattle.qc_oql_tree.specs.Kinds.{NAME, DEFINE, AS, SELECT, DISTINCT, FROM, WHERE, ORDER, BY, IN, IF, THEN, ELSE, EXISTS, FOR, ALL, OR, AND, NOT, LIKE, STRUCT, BAG, MATCH, LEFT, RIGHT, NONZERO, TEXT, OPEN, CLOSE, COMMA, DOT, COLON, SEMICOLON, MINUS, TIMES, WHOLES, CONSTANTS, LITERALS, SETS, SUMS, DIVISIONS, FACTORS, TESTS, DIRECTIONS, UNARIES, BINARIES, BRANDINGS, LABELS}
+use Rattle.qc_oql_tree.specs.declared.tree.Query as queries
+use Rattle.qc_oql_tree.specs.declared.tree.Select.{Select}
+use Rattle.qc_oql_tree.specs.declared.tree.Unary.{Unary}
+use Rattle.qc_oql_tree.specs.Grammar as rel
 use Rattle.qc_oql_tree.specs.Lexemes.{whole, content}
-use Rattle.qc_oql_tree.specs.Operators.{constant_of, unary_of, binary_of, division_of, branding_of, direction_of}
+use Rattle.qc_oql_tree.specs.Operators.{constant_of, unary_of, binary_of, division_of, branding_of}
 use Rattle.qc_oql_tree.specs.Sizes.{size, filter_size, key_size, named_size, order_size, select_size, query_size}
-use Rattle.qc_oql_tree.specs.Trees.{select, filter, order, key}
-use Rattle.qc_oql_text.specs.Reading as s
-use Rattle.qc_oql_text.specs.Reading.{Parser}
-use Rattle.qc_oql_text.proofs.Exactness.{same}
-use Rattle.qc_oql_text.proofs.Nodes.{option_size, size-Name, size-Whole, size-Text, size-Constant, size-Struct, size-Bag, size-Unary, size-Binary, size-Divide, size-Like, size-Dot, size-Brand, size-Match, size-If, size-Quantified, size-Select, size-named, size-filter, size-key, size-order, size-select}
-use Rattle.qc_oql_text.proofs.Pieces.{entry}
+use Rattle.qc_oql_tree.specs.Trees.{named, select, filter, order, key}
+use Rattle.qc_oql_text.proofs.Nodes.{option_size, size-Name, size-Whole, size-Text, size-Constant, size-Struct, size-Bag, size-Unary, size-Binary}
+use Rattle.qc_oql_text.proofs.Nodes.{size-Divide, size-Like, size-Dot, size-Brand, size-Match, size-If, size-Quantified, size-Select, size-named}
+use Rattle.qc_oql_text.proofs.Nodes.{size-filter, size-key, size-order, size-select}
 
--- the size of an expression and of what holds it
-abbrev grown : Oql → ℕ
-grown x = 1 + size x
+-- an operator between its operands
+binary : (i j k : ℕ) (o : Binary) (x y : Oql) → i + size x ≤ j → suc j + size y ≤ k → i + size (tree.Binary j o x y) ≤ k
+binary i j k o x y a b = omega (arith, a, b, size-Binary j o x y)
 
--- by a smaller size
-sized_less : {T A : Type 0} {most before : ℕ} {f h : A → ℕ} {p : parsers.Parser T A} → ((x : A) → f x ≤ h x) → Sized most h before p → Sized most f before p
-sized_less le z = record { within = λ ts rest x e. let a = le x in let b = z.within ts rest x e in omega (arith, a, b) }
+-- a name and what is between it and its expression
+entry : (i j n at : ℕ) (name : List ℕ) (x : Oql) → suc i ≤ n → n + size x ≤ j → i + named_size (named at name x) ≤ j
+entry i j n at name x l a = omega (arith, l, a, size-named at name x)
 
-module _ (m : ℕ) (recur : Rule → Parser same Oql) (env : (r : Rule) → Sized 16 grown 0 (recur r)) where
-  some_members_sized : Sized 16 (sum_by size) 0 (s.some_members same m (suc m) recur)
-  unfolding s.some_members
-  some_members_sized = sized_list (COMMA ∷ []) (sized_less (λ x. omega arith) (env rule.Q)) m [] (omega arith)
+-- one more of a list, behind a token
+one_more : {A : Type 0} (f : A → ℕ) (i j k : ℕ) (xs : List A) (x : A) → i + sum_by f xs ≤ j → j + f x ≤ k → i + sum_by f (xs ++ x ∷ []) ≤ k
+one_more f i j k xs x a b = omega (arith, a, b, sum_by-append f xs (x ∷ []))
 
-  members_sized : Sized 16 (sum_by size) 0 (s.members same m (suc m) recur)
-  unfolding s.members s.closed_members
-  members_sized = sized_choose (CLOSE ∷ []) (sized_first (CLOSE ∷ []) (λ _. sized_pure [] (omega arith))) (sized_then some_members_sized (λ xs. sized_first (CLOSE ∷ []) (λ _. sized_pure xs (omega arith))))
+module _ (ts : List Lexeme) where
+  sized_directed : {i j : ℕ} {d : Direction} → rel.Directed ts i j d → i ≤ j
+  sized_directed (rel.ascending e) = omega arith
+  sized_directed (rel.descending e) = omega arith
+  sized_directed rel.undirected = omega arith
 
-  bag_sized : Sized 16 grown 0 (s.bag same m (suc m) recur)
-  unfolding s.bag
-  bag_sized = sized_first (BAG ∷ []) (λ b. sized_first (OPEN ∷ []) (λ _. sized_then members_sized (λ xs. sized_pure (tree.Bag b.at xs) (omega (arith, size-Bag b.at xs)))))
+  sized_divisor : {i j : ℕ} {n : ℤ} → rel.Divisor ts i j n → i ≤ j
+  sized_divisor (rel.negative e f) = omega arith
+  sized_divisor (rel.positive e) = omega arith
 
-  field_sized : Sized 16 named_size 0 (s.field same m (suc m) recur)
-  unfolding s.field
-  field_sized = sized_first LABELS (λ l. sized_first (COLON ∷ []) (λ _. sized_then (env rule.Q) (λ x. sized_pure (entry l x) (omega (arith, size-named l.at l.token.piece x)))))
+  mutual
+    sized_expr : {i j : ℕ} {x : Oql} → rel.Expr ts i j x → i + size x ≤ j
+    sized_expr {i = i} (rel.selected {x = x} e f) = let a = sized_selection f in omega (arith, a, size-Select i x)
+    sized_expr (rel.value f) = sized_q f
 
-  some_fields_sized : Sized 16 (sum_by named_size) 0 (s.some_fields same m (suc m) recur)
-  unfolding s.some_fields
-  some_fields_sized = sized_list (COMMA ∷ []) field_sized m [] (omega arith)
+    sized_selection : {i j : ℕ} {x : Select} → rel.Selection ts i j x → i + select_size x ≤ j
+    sized_selection (rel.selection {d = d} {x = x} {bs = bs} {f = f} {o = o} p e b w r) =
+        let h = sized_projection p in
+        let k = sized_bindings b in
+        let l = sized_filtered w in
+        let m = sized_ordered r in
+        omega (arith, h, k, l, m, size-select d x bs f o)
 
-  fields_sized : Sized 16 (sum_by named_size) 0 (s.fields same m (suc m) recur)
-  unfolding s.fields s.closed_fields
-  fields_sized = sized_choose (CLOSE ∷ []) (sized_first (CLOSE ∷ []) (λ _. sized_pure [] (omega arith))) (sized_then some_fields_sized (λ fs. sized_first (CLOSE ∷ []) (λ _. sized_pure fs (omega arith))))
+    sized_projection : {i j : ℕ} {d : Bool} {x : Oql} → rel.Projection ts i j d x → i + size x ≤ j
+    sized_projection (rel.distinct e f) = let a = sized_q f in omega (arith, a)
+    sized_projection (rel.all a f) = sized_q f
 
-  structure_sized : Sized 16 grown 0 (s.structure same m (suc m) recur)
-  unfolding s.structure
-  structure_sized = sized_first (STRUCT ∷ []) (λ t. sized_first (OPEN ∷ []) (λ _. sized_then fields_sized (λ fs. sized_pure (tree.Struct t.at fs) (omega (arith, size-Struct t.at fs)))))
+    sized_bindings : {i j : ℕ} {bs : List Named} → rel.Bindings ts i j bs → i + sum_by named_size bs ≤ j
+    sized_bindings (rel.one_binding f) = let a = sized_binding f in omega (arith, a)
+    sized_bindings {i = i} {j = k} (rel.more_bindings {j = j} {bs = bs} {b = b} f e g) =
+        let a = sized_bindings f in let c = sized_binding g in one_more named_size i j k bs b a (omega (arith, c))
 
-  case_sized : (side : ℕ) → Sized 16 named_size 0 (s.case same m (suc m) recur side)
-  unfolding s.case
-  case_sized side = sized_first (side ∷ []) (λ _. sized_first (NAME ∷ []) (λ n. sized_first (COLON ∷ []) (λ _. sized_then (env rule.Q) (λ x. sized_pure (entry n x) (omega (arith, size-named n.at n.token.piece x))))))
+    sized_binding : {i j : ℕ} {b : Named} → rel.Binding ts i j b → i + named_size b ≤ j
+    sized_binding {i = i} {j = j} (rel.binding {x = x} e f g) = entry i j (suc (suc i)) i (rel.text_at ts i) x (omega arith) (sized_q g)
 
-  cases_sized : Sized 16 (λ b. named_size b.0 + named_size b.1) 0 (s.cases same m (suc m) recur)
-  unfolding s.cases
-  cases_sized = sized_then (case_sized LEFT) (λ l. sized_first (COMMA ∷ []) (λ _. sized_then (case_sized RIGHT) (λ r. sized_pure (l, r) (omega arith))))
+    sized_filtered : {i j : ℕ} {f : Option Filter} → rel.Filtered ts i j f → i + option_size filter_size f ≤ j
+    sized_filtered {i = i} (rel.filtered {x = x} e f) = let a = sized_q f in omega (arith, a, size-filter i x)
+    sized_filtered rel.unfiltered = omega arith
 
-  matched_sized : Sized 16 grown 0 (s.matched same m (suc m) recur)
-  unfolding s.matched
-  matched_sized = sized_first (MATCH ∷ []) (λ t. sized_first (OPEN ∷ []) (λ _. sized_then (env rule.Q) (λ x. sized_first (COMMA ∷ []) (λ _. sized_then cases_sized (λ b. sized_first (CLOSE ∷ []) (λ _. sized_pure (tree.Match t.at x b.0 b.1) (omega (arith, size-Match t.at x b.0 b.1))))))))
+    sized_ordered : {i j : ℕ} {o : Option Order} → rel.Ordered ts i j o → i + option_size order_size o ≤ j
+    sized_ordered {i = i} (rel.ordered {ks = ks} e f g) = let a = sized_keys g in omega (arith, a, size-order i ks)
+    sized_ordered rel.unordered = omega arith
 
-  closed_sized : Sized 16 grown 0 (s.closed same m (suc m) recur)
-  unfolding s.closed
-  closed_sized = sized_then (env rule.Expr) (λ x. sized_first (CLOSE ∷ []) (λ _. sized_pure x (omega arith)))
+    -- a key may have no token of its own, and the word before it is left for it
+    sized_keys : {i j : ℕ} {ks : List Key} → rel.Keys ts i j ks → i + sum_by key_size ks ≤ suc j
+    sized_keys (rel.one_key f) = let a = sized_key f in omega (arith, a)
+    sized_keys {i = i} {j = l} (rel.more_keys {j = j} {ks = ks} {k = k} f e g) =
+        let a = sized_keys f in let c = sized_key g in one_more key_size i (suc j) (suc l) ks k a c
 
-  branded_sized : Sized 16 grown 0 (s.branded same m (suc m) recur)
-  unfolding s.branded
-  branded_sized = sized_first BRANDINGS (λ t. sized_first (OPEN ∷ []) (λ _. sized_first (NAME ∷ []) (λ n. sized_first (COMMA ∷ []) (λ _. sized_then closed_sized (λ x. sized_pure (tree.Brand t.at (branding_of t.kind) n.token.piece x) (omega (arith, size-Brand t.at (branding_of t.kind) n.token.piece x)))))))
+    sized_key : {i j : ℕ} {k : Key} → rel.SortKey ts i j k → i + key_size k ≤ suc j
+    sized_key (rel.sort_key {x = x} {d = d} f g) = let a = sized_q f in let b = sized_directed g in omega (arith, a, b, size-key x d)
 
-  call_two_sized : Sized 16 grown 0 (s.call_two same m (suc m) recur)
-  unfolding s.call_two
-  call_two_sized = sized_first BINARIES (λ t. sized_first (OPEN ∷ []) (λ _. sized_then (env rule.Q) (λ x. sized_first (COMMA ∷ []) (λ _. sized_then (env rule.Q) (λ y. sized_first (CLOSE ∷ []) (λ _. sized_pure (tree.Binary t.at (binary_of t.kind) x y) (omega (arith, size-Binary t.at (binary_of t.kind) x y))))))))
+    sized_q : {i j : ℕ} {x : Oql} → rel.Q ts i j x → i + size x ≤ j
+    sized_q {i = i} (rel.if_else {x = x} {y = y} {z = z} e f g h k l) =
+        let a = sized_q f in let b = sized_q h in let c = sized_q l in omega (arith, a, b, c, size-If i x y z)
+    sized_q {i = i} (rel.exists {b = b} {x = x} e f g h) =
+        let a = sized_binding f in let c = sized_q h in omega (arith, a, c, size-Quantified i quantifier.Exists b x)
+    sized_q {i = i} (rel.for_all {b = b} {x = x} e d f g h) =
+        let a = sized_binding f in let c = sized_q h in omega (arith, a, c, size-Quantified i quantifier.ForAll b x)
+    sized_q (rel.simple f) = sized_or f
 
-  call_sized : Sized 16 grown 0 (s.call same m (suc m) recur)
-  unfolding s.call
-  call_sized = sized_first UNARIES (λ t. sized_first (OPEN ∷ []) (λ _. sized_then closed_sized (λ x. sized_pure (tree.Unary t.at (unary_of t.kind) x) (omega (arith, size-Unary t.at (unary_of t.kind) x)))))
+    sized_or : {i j : ℕ} {x : Oql} → rel.Or ts i j x → i + size x ≤ j
+    sized_or {i = i} {j = k} (rel.or {j = j} {x = x} {y = y} f e g) = binary i j k (binary_of (rel.kind_at ts j)) x y (sized_or f) (sized_and g)
+    sized_or (rel.one_or f) = sized_and f
 
-  literal_sized : Sized 16 grown 0 (s.literal same m (suc m) recur)
-  unfolding s.literal s.number s.text s.constant
-  literal_sized = sized_choose WHOLES (sized_first WHOLES (λ t. sized_pure (tree.Whole t.at (whole t.token)) (omega (arith, size-Whole t.at (whole t.token))))) (sized_choose (TEXT ∷ []) (sized_first (TEXT ∷ []) (λ t. sized_pure (tree.Text t.at (content t.token)) (omega (arith, size-Text t.at (content t.token))))) (sized_first CONSTANTS (λ t. sized_pure (tree.Constant t.at (constant_of t.kind)) (omega (arith, size-Constant t.at (constant_of t.kind))))))
+    sized_and : {i j : ℕ} {x : Oql} → rel.And ts i j x → i + size x ≤ j
+    sized_and {i = i} {j = k} (rel.and {j = j} {x = x} {y = y} f e g) = binary i j k (binary_of (rel.kind_at ts j)) x y (sized_and f) (sized_not g)
+    sized_and (rel.one_and f) = sized_not f
 
-  called_sized : Sized 16 grown 0 (s.called same m (suc m) recur)
-  unfolding s.called s.form
-  called_sized = sized_choose UNARIES call_sized (sized_choose BINARIES call_two_sized (sized_choose (STRUCT ∷ []) structure_sized (sized_choose (BAG ∷ []) bag_sized (sized_choose BRANDINGS branded_sized matched_sized))))
+    sized_not : {i j : ℕ} {x : Oql} → rel.Not ts i j x → i + size x ≤ j
+    sized_not {i = i} (rel.not {x = x} e f) = let a = sized_not f in omega (arith, a, size-Unary i (unary_of (rel.kind_at ts i)) x)
+    sized_not (rel.test f) = sized_rel f
 
-  atom_sized : Sized 16 grown 0 (s.atom same m (suc m) recur)
-  unfolding s.atom s.name s.parens
-  atom_sized = sized_choose (NAME ∷ []) (sized_first (NAME ∷ []) (λ t. sized_pure (tree.Name t.at t.token.piece) (omega (arith, size-Name t.at t.token.piece)))) (sized_choose (OPEN ∷ []) (sized_first (OPEN ∷ []) (λ _. sized_wider (omega arith) closed_sized)) (sized_choose LITERALS literal_sized called_sized))
+    sized_rel : {i j : ℕ} {x : Oql} → rel.Rel ts i j x → i + size x ≤ j
+    sized_rel {i = i} {j = k} (rel.compared {j = j} {x = x} {y = y} f e g) = binary i j k (binary_of (rel.kind_at ts j)) x y (sized_sets f) (sized_sets g)
+    sized_rel (rel.like {j = j} {x = x} f e g) = let a = sized_sets f in omega (arith, a, size-Like j x (content (rel.token ts (suc j))))
+    sized_rel (rel.untested f) = sized_sets f
 
-  path_sized : Sized 16 grown 0 (s.path same m (suc m) recur)
-  unfolding s.path s.dot
-  path_sized = sized_then atom_sized (λ first. sized_chain (DOT ∷ []) (λ x. sized_first (DOT ∷ []) (λ _. sized_first LABELS (λ l. sized_pure (tree.Dot l.at x l.token.piece) (omega (arith, size-Dot l.at x l.token.piece))))) (suc m) first (omega arith))
+    sized_sets : {i j : ℕ} {x : Oql} → rel.Sets ts i j x → i + size x ≤ j
+    sized_sets {i = i} {j = k} (rel.sets {j = j} {x = x} {y = y} f e g) = binary i j k (binary_of (rel.kind_at ts j)) x y (sized_sets f) (sized_sum g)
+    sized_sets (rel.one_set f) = sized_sum f
 
-  neg_sized : Sized 16 grown 0 (s.neg same m (suc m) recur)
-  unfolding s.neg s.negated
-  neg_sized = sized_choose (MINUS ∷ []) (sized_first (MINUS ∷ []) (λ o. sized_then (env rule.Neg) (λ x. sized_pure (tree.Unary o.at unary.Neg x) (omega (arith, size-Unary o.at unary.Neg x))))) path_sized
+    sized_sum : {i j : ℕ} {x : Oql} → rel.Sum ts i j x → i + size x ≤ j
+    sized_sum {i = i} {j = k} (rel.sum {j = j} {x = x} {y = y} f e g) = binary i j k (binary_of (rel.kind_at ts j)) x y (sized_sum f) (sized_product g)
+    sized_sum (rel.one_summand f) = sized_product f
 
-  divisor_sized : Sized 16 (λ _. 0) 0 (s.divisor same m (suc m) recur)
-  unfolding s.divisor s.negative s.positive
-  divisor_sized = sized_choose (MINUS ∷ []) (sized_first (MINUS ∷ []) (λ _. sized_first (NONZERO ∷ []) (λ n. sized_pure (neg_ℤ (whole n.token)) (omega arith)))) (sized_first (NONZERO ∷ []) (λ n. sized_pure (whole n.token) (omega arith)))
+    sized_product : {i j : ℕ} {x : Oql} → rel.Product ts i j x → i + size x ≤ j
+    sized_product {i = i} {j = k} (rel.times {j = j} {x = x} {y = y} f e g) = binary i j k (binary_of (rel.kind_at ts j)) x y (sized_product f) (sized_neg g)
+    sized_product (rel.divided {j = j} {x = x} {n = n} f e g) =
+        let a = sized_product f in let b = sized_divisor g in omega (arith, a, b, size-Divide j (division_of (rel.kind_at ts j)) x n)
+    sized_product (rel.one_factor f) = sized_neg f
 
-  factor_sized : (x : Oql) → Sized 16 grown (grown x) (s.factor same m (suc m) recur x)
-  unfolding s.factor s.times s.divided
-  factor_sized x = sized_choose (TIMES ∷ []) (sized_first (TIMES ∷ []) (λ o. sized_then neg_sized (λ y. sized_pure (tree.Binary o.at (binary_of o.kind) x y) (omega (arith, size-Binary o.at (binary_of o.kind) x y))))) (sized_first DIVISIONS (λ o. sized_then divisor_sized (λ k. sized_pure (tree.Divide o.at (division_of o.kind) x k) (omega (arith, size-Divide o.at (division_of o.kind) x k)))))
+    sized_neg : {i j : ℕ} {x : Oql} → rel.Neg ts i j x → i + size x ≤ j
+    sized_neg {i = i} (rel.neg {x = x} e f) = let a = sized_neg f in omega (arith, a, size-Unary i (unary_of (rel.kind_at ts i)) x)
+    sized_neg (rel.unsigned f) = sized_path f
 
-  product_sized : Sized 16 grown 0 (s.product same m (suc m) recur)
-  unfolding s.product
-  product_sized = sized_then neg_sized (λ first. sized_chain FACTORS factor_sized (suc m) first (omega arith))
+    sized_path : {i j : ℕ} {x : Oql} → rel.Path ts i j x → i + size x ≤ j
+    sized_path (rel.dot {j = j} {x = x} f e c) = let a = sized_path f in omega (arith, a, size-Dot (suc j) x (rel.text_at ts (suc j)))
+    sized_path (rel.one_atom f) = sized_atom f
 
-  sum_sized : Sized 16 grown 0 (s.sum same m (suc m) recur)
-  unfolding s.sum s.summand
-  sum_sized = sized_then product_sized (λ first. sized_chain SUMS (λ x. sized_first SUMS (λ o. sized_then product_sized (λ y. sized_pure (tree.Binary o.at (binary_of o.kind) x y) (omega (arith, size-Binary o.at (binary_of o.kind) x y))))) (suc m) first (omega arith))
+    sized_atom : {i j : ℕ} {x : Oql} → rel.Atom ts i j x → i + size x ≤ j
+    sized_atom {i = i} (rel.number c) = omega (arith, size-Whole i (whole (rel.token ts i)))
+    sized_atom {i = i} (rel.text e) = omega (arith, size-Text i (content (rel.token ts i)))
+    sized_atom {i = i} (rel.constant c) = omega (arith, size-Constant i (constant_of (rel.kind_at ts i)))
+    sized_atom {i = i} (rel.name e) = omega (arith, size-Name i (rel.text_at ts i))
+    sized_atom (rel.parens e f c) = let a = sized_expr f in omega (arith, a)
+    sized_atom {i = i} (rel.struct {fs = fs} e o f c) = let a = sized_fields f in omega (arith, a, size-Struct i fs)
+    sized_atom {i = i} (rel.bag {xs = xs} e o f c) = let a = sized_members f in omega (arith, a, size-Bag i xs)
+    sized_atom {i = i} (rel.call {x = x} c o f e) = let a = sized_expr f in omega (arith, a, size-Unary i (unary_of (rel.kind_at ts i)) x)
+    sized_atom {i = i} (rel.call_two {x = x} {y = y} c o f m g e) =
+        let a = sized_q f in let b = sized_q g in omega (arith, a, b, size-Binary i (binary_of (rel.kind_at ts i)) x y)
+    sized_atom {i = i} (rel.brand {x = x} c o n m f e) =
+        let a = sized_expr f in omega (arith, a, size-Brand i (branding_of (rel.kind_at ts i)) (rel.text_at ts (suc (suc i))) x)
+    sized_atom {i = i} (rel.match {x = x} {left = l} {right = r} e o f m g k h c) =
+        let a = sized_q f in let b = sized_case g in let d = sized_case h in omega (arith, a, b, d, size-Match i x l r)
 
-  sets_sized : Sized 16 grown 0 (s.sets same m (suc m) recur)
-  unfolding s.sets s.set
-  sets_sized = sized_then sum_sized (λ first. sized_chain SETS (λ x. sized_first SETS (λ o. sized_then sum_sized (λ y. sized_pure (tree.Binary o.at (binary_of o.kind) x y) (omega (arith, size-Binary o.at (binary_of o.kind) x y))))) (suc m) first (omega arith))
+    sized_fields : {i j : ℕ} {fs : List Named} → rel.Fields ts i j fs → i + sum_by named_size fs ≤ j
+    sized_fields rel.no_fields = omega arith
+    sized_fields (rel.fields f) = sized_some_fields f
 
-  tested_sized : (x : Oql) → Sized 16 grown (0 + grown x) (s.tested same m (suc m) recur x)
-  unfolding s.tested s.compared s.liked
-  tested_sized x = sized_choose TESTS (sized_first TESTS (λ o. sized_then sets_sized (λ y. sized_pure (tree.Binary o.at (binary_of o.kind) x y) (omega (arith, size-Binary o.at (binary_of o.kind) x y))))) (sized_choose (LIKE ∷ []) (sized_first (LIKE ∷ []) (λ o. sized_first (TEXT ∷ []) (λ t. sized_pure (tree.Like o.at x (content t.token)) (omega (arith, size-Like o.at x (content t.token)))))) (sized_pure x (omega arith)))
+    sized_some_fields : {i j : ℕ} {fs : List Named} → rel.SomeFields ts i j fs → i + sum_by named_size fs ≤ j
+    sized_some_fields (rel.one_field f) = let a = sized_field f in omega (arith, a)
+    sized_some_fields {i = i} {j = k} (rel.more_fields {j = j} {fs = fs} {f = n} f e g) =
+        let a = sized_some_fields f in let c = sized_field g in one_more named_size i j k fs n a (omega (arith, c))
 
-  rel_sized : Sized 16 grown 0 (s.rel same m (suc m) recur)
-  unfolding s.rel
-  rel_sized = sized_then sets_sized tested_sized
+    sized_field : {i j : ℕ} {f : Named} → rel.Field ts i j f → i + named_size f ≤ j
+    sized_field {i = i} {j = j} (rel.field {x = x} c e f) = entry i j (suc (suc i)) i (rel.text_at ts i) x (omega arith) (sized_q f)
 
-  not_sized : Sized 16 grown 0 (s.not same m (suc m) recur)
-  unfolding s.not s.denied
-  not_sized = sized_choose (NOT ∷ []) (sized_first (NOT ∷ []) (λ o. sized_then (env rule.Not) (λ x. sized_pure (tree.Unary o.at unary.Not x) (omega (arith, size-Unary o.at unary.Not x))))) rel_sized
+    sized_members : {i j : ℕ} {xs : List Oql} → rel.Members ts i j xs → i + sum_by size xs ≤ j
+    sized_members rel.no_members = omega arith
+    sized_members (rel.members f) = sized_some_members f
 
-  and_sized : Sized 16 grown 0 (s.and same m (suc m) recur)
-  unfolding s.and s.conjunct
-  and_sized = sized_then not_sized (λ first. sized_chain (AND ∷ []) (λ x. sized_first (AND ∷ []) (λ o. sized_then not_sized (λ y. sized_pure (tree.Binary o.at (binary_of o.kind) x y) (omega (arith, size-Binary o.at (binary_of o.kind) x y))))) (suc m) first (omega arith))
+    sized_some_members : {i j : ℕ} {xs : List Oql} → rel.SomeMembers ts i j xs → i + sum_by size xs ≤ j
+    sized_some_members (rel.one_member f) = let a = sized_q f in omega (arith, a)
+    sized_some_members {i = i} {j = k} (rel.more_members {j = j} {xs = xs} {x = x} f e g) =
+        let a = sized_some_members f in let c = sized_q g in one_more size i j k xs x a (omega (arith, c))
 
-  or_sized : Sized 16 grown 0 (s.or same m (suc m) recur)
-  unfolding s.or s.disjunct
-  or_sized = sized_then and_sized (λ first. sized_chain (OR ∷ []) (λ x. sized_first (OR ∷ []) (λ o. sized_then and_sized (λ y. sized_pure (tree.Binary o.at (binary_of o.kind) x y) (omega (arith, size-Binary o.at (binary_of o.kind) x y))))) (suc m) first (omega arith))
+    sized_case : {side i j : ℕ} {b : Named} → rel.Case ts side i j b → i + named_size b ≤ j
+    sized_case {i = i} {j = j} (rel.case {x = x} l n c f) = entry i j (suc (suc (suc i))) (suc i) (rel.text_at ts (suc i)) x (omega arith) (sized_q f)
 
-  branches_sized : Sized 16 (λ b. size b.0 + size b.1) 0 (s.branches same m (suc m) recur)
-  unfolding s.branches
-  branches_sized = sized_first (THEN ∷ []) (λ _. sized_then (env rule.Q) (λ x. sized_first (ELSE ∷ []) (λ _. sized_then (env rule.Q) (λ y. sized_pure (x, y) (omega arith)))))
+  sized_defines : {i j : ℕ} {ds : List Named} → rel.Defines ts i j ds → i + sum_by named_size ds ≤ j
+  sized_defines rel.no_define = omega arith
+  sized_defines {i = i} (rel.more_defines {j = j} {k = k} {ds = ds} {x = x} f d n a g e) =
+      let b = sized_defines f in
+      let c = entry j (suc k) (suc (suc (suc j))) (suc j) (rel.text_at ts (suc j)) x (omega arith) (let h = sized_expr g in omega (arith, h)) in
+      one_more named_size i j (suc k) ds (named (suc j) (rel.text_at ts (suc j)) x) b c
 
-  if_else_sized : Sized 16 grown 0 (s.if_else same m (suc m) recur)
-  unfolding s.if_else
-  if_else_sized = sized_first (IF ∷ []) (λ t. sized_then (env rule.Q) (λ x. sized_then branches_sized (λ b. sized_pure (tree.If t.at x b.0 b.1) (omega (arith, size-If t.at x b.0 b.1)))))
+  sized_ending : {i j : ℕ} → rel.Ending ts i j → i ≤ j
+  sized_ending (rel.ended e) = omega arith
+  sized_ending rel.unended = omega arith
 
-  bind_sized : Sized 16 named_size 0 (s.bind same m (suc m) recur)
-  unfolding s.bind
-  bind_sized = sized_first (NAME ∷ []) (λ n. sized_first (IN ∷ []) (λ _. sized_then (env rule.Q) (λ x. sized_pure (entry n x) (omega (arith, size-named n.at n.token.piece x)))))
-
-  exists_sized : Sized 16 grown 0 (s.exists same m (suc m) recur)
-  unfolding s.exists
-  exists_sized = sized_first (EXISTS ∷ []) (λ t. sized_then bind_sized (λ b. sized_first (COLON ∷ []) (λ _. sized_then (env rule.Q) (λ x. sized_pure (tree.Quantified t.at quantifier.Exists b x) (omega (arith, size-Quantified t.at quantifier.Exists b x))))))
-
-  for_all_sized : Sized 16 grown 0 (s.for_all same m (suc m) recur)
-  unfolding s.for_all
-  for_all_sized = sized_first (FOR ∷ []) (λ t. sized_first (ALL ∷ []) (λ _. sized_then bind_sized (λ b. sized_first (COLON ∷ []) (λ _. sized_then (env rule.Q) (λ x. sized_pure (tree.Quantified t.at quantifier.ForAll b x) (omega (arith, size-Quantified t.at quantifier.ForAll b x)))))))
-
-  q_sized : Sized 16 grown 0 (s.q same m (suc m) recur)
-  unfolding s.q
-  q_sized = sized_choose (IF ∷ []) if_else_sized (sized_choose (FOR ∷ []) for_all_sized (sized_choose_two (EXISTS ∷ []) (NAME ∷ []) exists_sized or_sized))
-
-  directed_sized : Sized 16 (λ _. 0) 0 (s.directed same m (suc m) recur)
-  unfolding s.directed
-  directed_sized = sized_choose DIRECTIONS (sized_first DIRECTIONS (λ t. sized_pure (direction_of t.kind) (omega arith))) (sized_pure direction.Asc (omega arith))
-
-  sort_key_sized : Sized 16 key_size 0 (s.sort_key same m (suc m) recur)
-  unfolding s.sort_key
-  sort_key_sized = sized_then (env rule.Q) (λ x. sized_then directed_sized (λ d. sized_pure (key x d) (omega (arith, size-key x d))))
-
-  keys_sized : Sized 16 (sum_by key_size) 0 (s.keys same m (suc m) recur)
-  unfolding s.keys
-  keys_sized = sized_list (COMMA ∷ []) sort_key_sized m [] (omega arith)
-
-  ordered_sized : Sized 16 (option_size order_size) 0 (s.ordered same m (suc m) recur)
-  unfolding s.ordered s.some_order
-  ordered_sized = sized_choose (ORDER ∷ []) (sized_first (ORDER ∷ []) (λ t. sized_first (BY ∷ []) (λ _. sized_then keys_sized (λ ks. sized_pure (Some (order t.at ks)) (omega (arith, size-order t.at ks)))))) (sized_pure None (omega arith))
-
-  filtered_sized : Sized 16 (option_size filter_size) 0 (s.filtered same m (suc m) recur)
-  unfolding s.filtered s.some_filter
-  filtered_sized = sized_choose (WHERE ∷ []) (sized_first (WHERE ∷ []) (λ t. sized_then (env rule.Q) (λ x. sized_pure (Some (filter t.at x)) (omega (arith, size-filter t.at x))))) (sized_pure None (omega arith))
-
-  binds_sized : Sized 16 (sum_by named_size) 0 (s.binds same m (suc m) recur)
-  unfolding s.binds
-  binds_sized = sized_list (COMMA ∷ []) bind_sized m [] (omega arith)
-
-  sources_sized : Sized 16 (sum_by named_size) 0 (s.sources same m (suc m) recur)
-  unfolding s.sources
-  sources_sized = sized_first (FROM ∷ []) (λ _. sized_wider (omega arith) binds_sized)
-
-  projection_sized : Sized 16 (λ p. size p.1) 0 (s.projection same m (suc m) recur)
-  unfolding s.projection s.distinct s.all
-  projection_sized = sized_choose (DISTINCT ∷ []) (sized_first (DISTINCT ∷ []) (λ _. sized_then (env rule.Q) (λ x. sized_pure (true, x) (omega arith)))) (sized_then (env rule.Q) (λ x. sized_pure (false, x) (omega arith)))
-
-  selection_sized : Sized 16 select_size 0 (s.selection same m (suc m) recur)
-  unfolding s.selection
-  selection_sized = sized_then projection_sized (λ p. sized_then sources_sized (λ bs. sized_then filtered_sized (λ f. sized_then ordered_sized (λ o. sized_pure (select p.0 p.1 bs f o) (omega (arith, size-select p.0 p.1 bs f o))))))
-
-  expr_sized : Sized 16 grown 0 (s.expr same m (suc m) recur)
-  unfolding s.expr s.selected
-  expr_sized = sized_choose (SELECT ∷ []) (sized_first (SELECT ∷ []) (λ t. sized_then selection_sized (λ x. sized_pure (tree.Select t.at x) (omega (arith, size-Select t.at x))))) q_sized
-
-  body_sized : (r : Rule) → Sized 16 grown 0 (s.body same m (suc m) recur r)
-  body_sized rule.Expr = expr_sized
-  body_sized rule.Q = q_sized
-  body_sized rule.Not = not_sized
-  body_sized rule.Neg = neg_sized
-
-reading_sized : (m : ℕ) (r : Rule) → Sized 16 grown 0 (s.reading same m r)
-unfolding s.reading
-reading_sized zero r = sized_deep
-reading_sized (suc m) r = body_sized m (s.reading same m) (reading_sized m) r
-
-definition_sized : (m : ℕ) → Sized 16 named_size 0 (s.definition same m)
-unfolding s.definition
-definition_sized m = sized_first (DEFINE ∷ []) (λ _. sized_first (NAME ∷ []) (λ n. sized_first (AS ∷ []) (λ _. sized_then (reading_sized m rule.Expr) (λ x. sized_first (SEMICOLON ∷ []) (λ _. sized_pure (entry n x) (omega (arith, size-named n.at n.token.piece x)))))))
-
-define_sized : (m : ℕ) (ds : List Named) → Sized 16 (sum_by named_size) (sum_by named_size ds) (s.define same m ds)
-unfolding s.define
-define_sized m ds = sized_then (definition_sized m) (λ d. sized_pure (ds ++ d ∷ []) (omega (arith, sum_by-append named_size ds (d ∷ []))))
-
-ended_sized : (m : ℕ) → Sized 16 grown 0 (s.ended same m)
-unfolding s.ended
-ended_sized m = sized_then (reading_sized m rule.Expr) (λ x. sized_choose (SEMICOLON ∷ []) (sized_first (SEMICOLON ∷ []) (λ _. sized_pure x (omega arith))) (sized_pure x (omega arith)))
-
--- whole queries
-pub query_sized : (m : ℕ) → Sized 16 query_size 0 (s.query same m)
-unfolding s.query
-query_sized m = sized_then (sized_chain (DEFINE ∷ []) (define_sized m) m [] (omega arith)) (λ ds. sized_then (ended_sized m) (λ x. sized_pure (record { defines = ds; body = x }) (omega arith)))
+  -- at most one node for each token
+  pub sized_query : (q : queries.Query) → rel.Query ts q → query_size q ≤ length ts
+  sized_query q (rel.query f g e) = let a = sized_defines f in let b = sized_expr g in let c = sized_ending e in omega (arith, a, b, c)
