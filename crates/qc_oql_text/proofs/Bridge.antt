@@ -20,8 +20,8 @@ use Rattle.qc_oql_text.specs.inner.Table.{grammar}
 use Rattle.qc_oql_text.specs.inner.Values.{Values}
 use Rattle.qc_oql_text.proofs.Closed.{closed}
 use Rattle.qc_oql_text.proofs.Complete.{of_query}
-use Rattle.qc_oql_text.proofs.Same as same
-use Rattle.qc_oql_text.proofs.Walks as walks
+use Rattle.qc_grammar.proofs.Same as same
+use Rattle.qc_grammar.proofs.Walks as walks
 use Rattle.qc_oql_text.proofs.Words.{Queried, words}
 
 module _ (ts : List Lexeme) where

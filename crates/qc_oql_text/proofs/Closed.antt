@@ -24,7 +24,7 @@ use Rattle.qc_oql_text.specs.inner.Actions as actions
 use Rattle.qc_oql_text.specs.inner.Actions.{act}
 use Rattle.qc_oql_text.specs.inner.Table.{grammar}
 use Rattle.qc_oql_text.specs.inner.Values.{Values, rest, the_mark, the_entries, the_keys, the_members, the_tree}
-use Rattle.qc_oql_text.proofs.Walks.{Kept, of, Left, Closes, AllClose}
+use Rattle.qc_grammar.proofs.Walks.{Kept, of, Left, Closes, AllClose}
 use Rattle.qc_oql_text.proofs.Words as words
 use Rattle.qc_oql_text.proofs.Words.{puts, grows, PLAIN_UNARIES}
 

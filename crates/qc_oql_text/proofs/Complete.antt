@@ -28,8 +28,8 @@ use Rattle.qc_oql_text.specs.inner.Actions.{act}
 use Rattle.qc_oql_text.specs.inner.Table as table
 use Rattle.qc_oql_text.specs.inner.Table.{grammar}
 use Rattle.qc_oql_text.specs.inner.Values.{Values}
-use Rattle.qc_oql_text.proofs.Walks as walks
-use Rattle.qc_oql_text.proofs.Walks.{Walks, done, here, acts, goes}
+use Rattle.qc_grammar.proofs.Walks as walks
+use Rattle.qc_grammar.proofs.Walks.{Walks, done, here, acts, goes}
 use Rattle.qc_oql_text.proofs.Words.{single, PLAIN_UNARIES}
 
 -- a level of operators stands in the table as it is, for what doesn't begin with `exists`, and with neither this nor `distinct`

@@ -5,8 +5,6 @@ mod Complete
 mod Nodes
 mod Notes
 mod Samples
-mod Same
 mod Scanned
 mod Sizes
-mod Walks
 mod Words

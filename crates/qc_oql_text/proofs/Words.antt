@@ -22,7 +22,7 @@ use Rattle.qc_oql_text.specs.declared.value.Value.{Value}
 use Rattle.qc_oql_text.specs.declared.value.Value.TheVariants as value
 use Rattle.qc_oql_text.specs.inner.Actions as actions
 use Rattle.qc_oql_text.specs.inner.Values.{Values, rest, the_mark, the_entries, the_keys}
-use Rattle.qc_oql_text.proofs.Walks.{Kept, AllKept, none, also}
+use Rattle.qc_grammar.proofs.Walks.{Kept, AllKept, none, also}
 
 -- a value of a language on top of the stack
 abbrev pub puts : {A : Type 0} → (A → Value) → (ℕ → ℕ → A → Type 0) → Kept Values
