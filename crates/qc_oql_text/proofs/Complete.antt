@@ -297,6 +297,7 @@ module _ (ts : List Lexeme) where
 
   mutual
     unfolding act actions.act_list actions.act_tree grammar
+
     pub of_expr : {i j : ℕ} {x : Oql} → rel.Expr ts i j x → Yields i (Rule table.rule_expr ∷ []) j x
     of_expr (rel.selected e f) = λ s. by 0 refl (here e (acts (of_selection f _ s)))
     of_expr (rel.value f) = λ s. by 1 refl ((of_q f).whole s)

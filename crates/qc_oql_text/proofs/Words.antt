@@ -83,7 +83,6 @@ pub record Queried (ts : List Lexeme) (i : ℕ) : Type 0 where
   pub spelled : rel.Expr ts j k body
   pub ended : rel.Ending ts k end
 
-
 module _ (ts : List Lexeme) where
   -- where it does not begin with `distinct`
   abbrev pub Apart : (ℕ → ℕ → Oql → Type 0) → ℕ → ℕ → Oql → Type 0
