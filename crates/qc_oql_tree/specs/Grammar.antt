@@ -16,9 +16,11 @@ use Rattle.qc_oql_tree.specs.declared.tree.Quantifier.TheVariants as quantifier
 use Rattle.qc_oql_tree.specs.declared.tree.Direction.{Direction}
 use Rattle.qc_oql_tree.specs.declared.tree.Direction.TheVariants as direction
 use Rattle.qc_oql_tree.specs.Kinds.{NAME, DEFINE, AS, SELECT, DISTINCT, FROM, WHERE, ORDER, BY, IN, ASC, DESC, IF, THEN}
-use Rattle.qc_oql_tree.specs.Kinds.{ELSE, EXISTS, FOR, ALL, OR, AND, NOT, LIKE, STRUCT, BAG, MATCH, LEFT, RIGHT, NONZERO}
+use Rattle.qc_oql_tree.specs.Kinds.{ELSE, EXISTS, FOR, ALL, OR, AND, NOT, LIKE, STRUCT, BAG, MATCH, LEFT, RIGHT}
+use Rattle.qc_oql_tree.specs.Kinds.{NONZERO}
 use Rattle.qc_oql_tree.specs.Kinds.{TEXT, OPEN, CLOSE, COMMA, DOT, COLON, SEMICOLON, MINUS, TIMES}
-use Rattle.qc_oql_tree.specs.Kinds.{WHOLES, CONSTANTS, SETS, SUMS, DIVISIONS, TESTS, UNARIES, BINARIES, BRANDINGS, LABELS}
+use Rattle.qc_oql_tree.specs.Kinds.{WHOLES, CONSTANTS, SETS, SUMS, DIVISIONS, TESTS, UNARIES, BINARIES, BRANDINGS}
+use Rattle.qc_oql_tree.specs.Kinds.{LABELS}
 use Rattle.qc_oql_tree.specs.Lexemes.{kind, whole, content}
 use Rattle.qc_oql_tree.specs.Trees.{named, select, filter, order, key}
 use Rattle.qc_oql_tree.specs.Operators.{constant_of, unary_of, binary_of, division_of, branding_of}
@@ -74,20 +76,23 @@ module _ (tokens : List Lexeme) where
 
     -- binding = NAME "in" q
     pub data Binding : ℕ → ℕ → Named → Type 0 where
-      binding : {i j : ℕ} {x : Oql} → Is i NAME → Is (suc i) IN → Q (suc (suc i)) j x → Binding i j (named i (text_at i) x)
+      binding : {i j : ℕ} {x : Oql} → Is i NAME → Is (suc i) IN → Q (suc (suc i)) j x
+          → Binding i j (named i (text_at i) x)
 
     pub data Filtered : ℕ → ℕ → Option Filter → Type 0 where
       filtered : {i j : ℕ} {x : Oql} → Is i WHERE → Q (suc i) j x → Filtered i j (Some (filter i x))
       unfiltered : {i : ℕ} → Filtered i i None
 
     pub data Ordered : ℕ → ℕ → Option Order → Type 0 where
-      ordered : {i j : ℕ} {ks : List Key} → Is i ORDER → Is (suc i) BY → Keys (suc (suc i)) j ks → Ordered i j (Some (order i ks))
+      ordered : {i j : ℕ} {ks : List Key} → Is i ORDER → Is (suc i) BY → Keys (suc (suc i)) j ks
+          → Ordered i j (Some (order i ks))
       unordered : {i : ℕ} → Ordered i i None
 
     -- keys = key | keys "," key
     pub data Keys : ℕ → ℕ → List Key → Type 0 where
       one_key : {i j : ℕ} {k : Key} → SortKey i j k → Keys i j (k ∷ [])
-      more_keys : {i j l : ℕ} {ks : List Key} {k : Key} → Keys i j ks → Is j COMMA → SortKey (suc j) l k → Keys i l (ks ++ k ∷ [])
+      more_keys : {i j l : ℕ} {ks : List Key} {k : Key} → Keys i j ks → Is j COMMA → SortKey (suc j) l k
+          → Keys i l (ks ++ k ∷ [])
 
     -- key = q [ "asc" | "desc" ]
     pub data SortKey : ℕ → ℕ → Key → Type 0 where
@@ -100,7 +105,8 @@ module _ (tokens : List Lexeme) where
 
     -- q = "if" q "then" q "else" q | "exists" binding ":" q | "for" "all" binding ":" q | or
     pub data Q : ℕ → ℕ → Oql → Type 0 where
-      if_else : {i j k l : ℕ} {x y z : Oql} → Is i IF → Q (suc i) j x → Is j THEN → Q (suc j) k y → Is k ELSE → Q (suc k) l z
+      if_else : {i j k l : ℕ} {x y z : Oql} → Is i IF → Q (suc i) j x → Is j THEN → Q (suc j) k y → Is k ELSE
+          → Q (suc k) l z
           → Q i l (tree.If i x y z)
       exists : {i j k : ℕ} {b : Named} {x : Oql} → Is i EXISTS → Binding (suc i) j b → Is j COLON → Q (suc j) k x
           → Q i k (tree.Quantified i quantifier.Exists b x)
@@ -111,7 +117,8 @@ module _ (tokens : List Lexeme) where
 
     -- or = or "or" and | and
     pub data Or : ℕ → ℕ → Oql → Type 0 where
-      or : {i j k : ℕ} {x y : Oql} → Or i j x → Is j OR → And (suc j) k y → Or i k (tree.Binary j (binary_of (kind_at j)) x y)
+      or : {i j k : ℕ} {x y : Oql} → Or i j x → Is j OR → And (suc j) k y
+          → Or i k (tree.Binary j (binary_of (kind_at j)) x y)
       one_or : {i j : ℕ} {x : Oql} → And i j x → Or i j x
 
     -- and = and "and" not | not
@@ -150,7 +157,8 @@ module _ (tokens : List Lexeme) where
       times : {i j k : ℕ} {x y : Oql}
           → Product i j x → Is j TIMES → Neg (suc j) k y → Product i k (tree.Binary j (binary_of (kind_at j)) x y)
       divided : {i j k : ℕ} {x : Oql} {n : ℤ}
-          → Product i j x → Among j DIVISIONS → Divisor (suc j) k n → Product i k (tree.Divide j (division_of (kind_at j)) x n)
+          → Product i j x → Among j DIVISIONS → Divisor (suc j) k n
+          → Product i k (tree.Divide j (division_of (kind_at j)) x n)
       one_factor : {i j : ℕ} {x : Oql} → Neg i j x → Product i j x
 
     -- divisor = [ "-" ] NONZERO
@@ -169,7 +177,8 @@ module _ (tokens : List Lexeme) where
           → Path i (suc (suc j)) (tree.Dot (suc j) x (text_at (suc j)))
       one_atom : {i j : ℕ} {x : Oql} → Atom i j x → Path i j x
 
-    -- atom = WHOLE | TEXT | "true" | "false" | "nil" | NAME | "(" expr ")" | "struct" "(" fields ")" | "bag" "(" members ")"
+    -- atom = WHOLE | TEXT | "true" | "false" | "nil" | NAME | "(" expr ")" | "struct" "(" fields ")" | "bag" "("
+    -- members ")"
     -- | unary "(" expr ")" | binary "(" q "," q ")" | ( "cast" | "brand" ) "(" NAME "," expr ")"
     -- | "match" "(" q "," "left" NAME ":" q "," "right" NAME ":" q ")"
     pub data Atom : ℕ → ℕ → Oql → Type 0 where
@@ -187,7 +196,8 @@ module _ (tokens : List Lexeme) where
       call_two : {i j k : ℕ} {x y : Oql}
           → Among i BINARIES → Is (suc i) OPEN → Q (suc (suc i)) j x → Is j COMMA → Q (suc j) k y → Is k CLOSE
           → Atom i (suc k) (tree.Binary i (binary_of (kind_at i)) x y)
-      brand : {i j : ℕ} {x : Oql} → Among i BRANDINGS → Is (suc i) OPEN → Is (suc (suc i)) NAME → Is (suc (suc (suc i))) COMMA
+      brand : {i j : ℕ} {x : Oql} → Among i BRANDINGS → Is (suc i) OPEN → Is (suc (suc i)) NAME
+          → Is (suc (suc (suc i))) COMMA
           → Expr (suc (suc (suc (suc i)))) j x → Is j CLOSE
           → Atom i (suc j) (tree.Brand i (branding_of (kind_at i)) (text_at (suc (suc i))) x)
       match : {i j k l : ℕ} {x : Oql} {left right : Named} → Is i MATCH → Is (suc i) OPEN → Q (suc (suc i)) j x
@@ -206,7 +216,8 @@ module _ (tokens : List Lexeme) where
 
     -- field = LABEL ":" q
     pub data Field : ℕ → ℕ → Named → Type 0 where
-      field : {i j : ℕ} {x : Oql} → Among i LABELS → Is (suc i) COLON → Q (suc (suc i)) j x → Field i j (named i (text_at i) x)
+      field : {i j : ℕ} {x : Oql} → Among i LABELS → Is (suc i) COLON → Q (suc (suc i)) j x
+          → Field i j (named i (text_at i) x)
 
     -- members = [ q { "," q } ]
     pub data Members : ℕ → ℕ → List Oql → Type 0 where

@@ -12,7 +12,10 @@ use Rattle.qc_oql_tree.specs.declared.tree.Branding.{Branding}
 use Rattle.qc_oql_tree.specs.declared.tree.Branding.TheVariants as branding
 use Rattle.qc_oql_tree.specs.declared.tree.Direction.{Direction}
 use Rattle.qc_oql_tree.specs.declared.tree.Direction.TheVariants as direction
-use Rattle.qc_oql_tree.specs.Kinds.{ABS, AND, ASC, AT_LEAST, AT_MOST, AVG, CAST, COUNT, DISTINCT, DIVIDE, ELEMENT, EQUAL, EXCEPT, FALSE, FLATTEN, GLUE, GREATER, IN, INTERSECT, LEAST, LEFT, LESS, MAX, MIN, MINUS, NOT, NOT_EQUAL, OR, ORELSE, PLUS, RIGHT, SUM, TIMES, TRUE, UNBRAND, UNION}
+use Rattle.qc_oql_tree.specs.Kinds.{ABS, AND, ASC, AT_LEAST, AT_MOST, AVG, CAST, COUNT, DISTINCT, DIVIDE, ELEMENT}
+use Rattle.qc_oql_tree.specs.Kinds.{EQUAL, EXCEPT, FALSE, FLATTEN, GLUE, GREATER, IN, INTERSECT, LEAST, LEFT, LESS, MAX}
+use Rattle.qc_oql_tree.specs.Kinds.{MIN, MINUS, NOT, NOT_EQUAL, OR, ORELSE, PLUS, RIGHT, SUM, TIMES, TRUE, UNBRAND}
+use Rattle.qc_oql_tree.specs.Kinds.{UNION}
 
 -- the literal that a kind of word is
 abbrev pub constant_of : ℕ → Constant

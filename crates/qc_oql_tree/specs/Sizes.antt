@@ -2,7 +2,8 @@
 use Rattle.std.specs.Prelude.{ℕ, ◌+◌, Option, Some, None, sum, sum_by}
 use Rattle.qc_oql_tree.specs.declared.tree.Oql.{Oql}
 use Rattle.qc_oql_tree.specs.declared.tree.Oql.TheOpen.{Oql-F, Filter-F, Key-F, Named-F, Order-F, Select-F}
-use Rattle.qc_oql_tree.specs.declared.tree.Oql.TheFolds.{fold-Oql, fold-Filter, fold-Key, fold-Named, fold-Order, fold-Select}
+use Rattle.qc_oql_tree.specs.declared.tree.Oql.TheFolds.{fold-Oql, fold-Filter, fold-Key, fold-Named, fold-Order}
+use Rattle.qc_oql_tree.specs.declared.tree.Oql.TheFolds.{fold-Select}
 use Rattle.qc_oql_tree.specs.declared.tree.Filter.{Filter}
 use Rattle.qc_oql_tree.specs.declared.tree.Key.{Key}
 use Rattle.qc_oql_tree.specs.declared.tree.Named.{Named}
