@@ -1,6 +1,6 @@
 use Rattle.std.proofs.Common.{Ok, sym}
 use Rattle.std.specs.String.{string_bytes}
-use Rattle.qcert.proofs.run.answered.Goals as goal
+use Rattle.qcert.proofs.program.answered.Goals as goal
 
 pub returns-in-Ok-clause-ran : goal.returns-in-Ok-clause-ran
 returns-in-Ok-clause-ran g c = record {

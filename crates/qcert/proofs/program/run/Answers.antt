@@ -1,5 +1,5 @@
 use Rattle.qcert.proofs.RanLemmas.{compiled, complete, refused}
-use Rattle.qcert.proofs.run.run.Goals as goal
+use Rattle.qcert.proofs.program.run.Goals as goal
 
 pub returns-clause-compiled : goal.returns-clause-compiled
 returns-clause-compiled g c = λ z asks. compiled _ _ _ _ _ _ _ _ _ _ c.answered.ensures.ran z asks

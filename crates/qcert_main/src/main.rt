@@ -1,19 +1,8 @@
-//! The query compiler: from the words of a command line and the bytes of a query to the bytes of a JavaScript program.
+//! The query compiler as a program: the words of its command line, the files of the system and the standard streams.
 #![tactic(auto)]
 
-mod actions;
-mod answer;
-mod job;
-mod lower;
-mod refusal;
-mod run;
-mod stages;
-mod telling;
-#[cfg(test)]
-mod tests;
-
 use qc_io::{FileShelf, StdSink};
-use refusal::Refusal;
+use qcert::Refusal;
 use std::env;
 use std::io::{self, ErrorKind};
 use std::process::ExitCode;
@@ -29,7 +18,7 @@ fn main(rt: HostRuntime) -> ExitCode {
     let mut shelf = FileShelf::new(&rt);
     let mut out = StdSink::new(rt.stdout());
     let mut err = StdSink::new(rt.stderr());
-    ExitCode::from(run::run(rt.alloc(), &words, &mut shelf, &mut out, &mut err))
+    ExitCode::from(qcert::run(rt.alloc(), &words, &mut shelf, &mut out, &mut err))
 }
 
 fn words(rt: &HostRuntime) -> io::Result<Vec<RcStr>> {
