@@ -2,11 +2,13 @@
 #![tactic(auto)]
 
 mod actions;
-mod answer;
 mod job;
 mod lower;
 mod program;
+mod reading;
 mod refusal;
+mod serving;
+mod sources;
 mod stages;
 mod telling;
 
