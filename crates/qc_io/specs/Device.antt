@@ -1,5 +1,5 @@
 -- What the calls of a shelf and of a sink do to what they tell.
-use Rattle.std.specs.Prelude.{◌≡◌, ℕ, ◌+◌, ◌-◌, ◌^◌, ◌<◌, ◌≤◌, min, List, length, take, Option, Some, None, IfSome}
+use Rattle.std.specs.Prelude.{◌≡◌, ℕ, ◌+◌, ◌-◌, ◌^◌, ◌<◌, ◌≤◌, min, List, length, take, Option, Some, None, IfSome, ◌⊎◌, ◌++◌, option_map}
 use Rattle.std.specs.Io.KnownBytes.{append_known}
 
 -- the text of each name that has one
@@ -24,6 +24,14 @@ pub record IsTooLong (texts : Option Texts) (name : List ℕ) (most : ℕ) (got 
 abbrev pub IsMissing : Option Texts → List ℕ → Type 0
 IsMissing None name = ⊥
 IsMissing (Some text_of) name = text_of name ≡ None
+
+-- the names that a shelf was asked for before, and then these, where it tells them
+abbrev pub and_then_asked : Option (List (List ℕ)) → List (List ℕ) → Option (List (List ℕ))
+and_then_asked before names = option_map (λ others. others ++ names) before
+
+-- it was asked for these names and no others, or it tells no longer what it was asked for
+abbrev pub HasAsked : Option (List (List ℕ)) → Option (List (List ℕ)) → List (List ℕ) → Type 0
+HasAsked old new names = (new ≡ None) ⊎ (new ≡ and_then_asked old names)
 
 -- some front of the piece was appended, where the bytes are told, and still no bytes are told, where they weren't
 abbrev pub AppendsFront : Option (List ℕ) → Option (List ℕ) → List ℕ → Type 0

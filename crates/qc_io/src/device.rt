@@ -1,7 +1,7 @@
 // What a shelf and a sink tell, and what their calls do to it.
-ghost use Rattle.std.specs.Prelude.{◌≡◌, ℕ, ◌≤◌, ◌⊎◌, List, Option, None, IfSome, OnOk, OnErr, IsErrOf};
+ghost use Rattle.std.specs.Prelude.{◌≡◌, ℕ, ◌≤◌, ◌⊎◌, List, [], ◌∷◌, Option, None, IfSome, OnOk, OnErr, IsErrOf};
 ghost use Rattle.std.specs.Io.KnownBytes.{append_known};
-ghost use Rattle.qc_io.specs.Device.{Texts, Rose, IsMissing, IsText, IsTooLong, AppendsFront};
+ghost use Rattle.qc_io.specs.Device.{Texts, Rose, IsMissing, IsText, IsTooLong, HasAsked, AppendsFront};
 
 use thiserror::Error;
 
@@ -34,10 +34,14 @@ pub trait Shelf {
     /// How often the shelf failed. The count stays at its last value, 2^64 - 1.
     ghost faults: { Self → ℕ };
 
+    /// The names that it was asked for so far, in order, where the shelf tells them.
+    ghost asked: { Self → Option (List (List ℕ)) };
+
     /// Empties `into`, and puts the whole text of `name` there, if it has at most `most` bytes.
     /// The limit is itself at most 2^32.
     ///
-    /// The texts stay as they are, and so does whether they are told (`same`).
+    /// The texts stay as they are, and so does whether they are told (`same`). The name follows those that were asked
+    /// for before, where the shelf still tells them (`asks`).
     ///
     /// # Errors
     ///
@@ -52,6 +56,7 @@ pub trait Shelf {
         ensures failed { IsErrOf result FetchFault.Failed
             → Rose (faults self.old) (faults self.new) ⊎ IsMissing (texts self.old) name.now }
         ensures count { faults self.old ≤ faults self.new }
+        ensures asks { HasAsked (asked self.old) (asked self.new) (name.now ∷ []) }
         ensures same { texts self.new ≡ texts self.old };
 }
 

@@ -6,7 +6,7 @@ use std::fs;
 use std::io::Read;
 use std::rt::Files;
 
-/// The files of the system, by their paths. It tells no texts, and counts a fault at each `Failed`,
+/// The files of the system, by their paths. It tells no texts and not what it was asked for, and counts a fault at each `Failed`,
 /// that of a missing file too. A file that gives no byte has ended.
 #[derive(Drop)]
 pub struct FileShelf<'a, R: Files> {
@@ -25,6 +25,8 @@ impl<R: Files> Shelf for FileShelf<'_, R> {
     ghost texts = { λ _. None };
 
     ghost faults = { λ shelf. shelf.faults };
+
+    ghost asked = { λ _. None };
 
     fn fetch(&mut self, name: &str, most: u64, into: &mut Vec<u8>) -> Result<(), FetchFault> {
         into.clear();

@@ -1,6 +1,7 @@
 //! The outside of a program: shelves, which hold named texts, and sinks, which take bytes.
 #![tactic(auto)]
 
+mod asked;
 mod calls;
 mod device;
 mod file;

@@ -1,9 +1,10 @@
 // A shelf in memory, whose failing calls are listed beforehand.
 ghost use Rattle.std.specs.Prelude.{◌≡◌, ◌≤◌, ◌<◌, ◌+◌, ◌⊎◌, ◌↔◌, ◌++◌, ◌∷◌, [], length, Some, None, OnOk, OnErr, IsErrOf, Contains, MatchOption};
 ghost use Rattle.qc_io.specs.Calls.{FailsNext, with_failing, called, faulted};
-ghost use Rattle.qc_io.specs.Device.{Rose, IsText, IsTooLong, IsMissing};
+ghost use Rattle.qc_io.specs.Device.{Rose, IsText, IsTooLong, IsMissing, HasAsked};
 ghost use Rattle.qc_io.specs.MemShelf.{no_texts, text_of};
 
+use crate::asked::Asked;
 use crate::calls::Calls;
 use crate::{FetchFault, Shelf};
 use qc_data::Memory;
@@ -34,6 +35,7 @@ pub struct MemShelf {
     // The last added stands first.
     texts: Vec<Named>,
     calls: Calls,
+    asked: Asked,
 }
 
 impl Model for MemShelf {
@@ -41,7 +43,7 @@ impl Model for MemShelf {
 
     ghost Value = { ShelfState };
 
-    ghost view = { λ shelf. record { texts = shelf.texts.items; calls = shelf.calls } };
+    ghost view = { λ shelf. record { texts = shelf.texts.items; calls = shelf.calls; asked = shelf.asked } };
 }
 
 impl MemShelf {
@@ -53,6 +55,7 @@ impl MemShelf {
             alloc,
             texts: Vec::new(alloc),
             calls: Calls::new(alloc),
+            asked: Asked::new(alloc),
         }
     }
 
@@ -91,8 +94,11 @@ impl Shelf for MemShelf {
 
     ghost faults = { λ shelf. shelf.calls.faults };
 
+    ghost asked = { λ shelf. shelf.asked };
+
     /// Fetches a text, as every shelf. It answers `Failed` exactly where the call is listed or the
-    /// name is missing, and counts a fault exactly where the call is listed.
+    /// name is missing, and counts a fault exactly where the call is listed. It tells what it was asked for until
+    /// memory is wanting to note a name.
     fn fetch(&mut self, name: &str, most: u64, into: &mut Vec<u8>) -> Result<(), FetchFault>
         requires { most ≤ 4294967296 }
 
@@ -105,17 +111,19 @@ impl Shelf for MemShelf {
             → Rose self.old.calls.faults self.new.calls.faults
             ⊎ IsMissing (Some (text_of self.old.texts)) name.now }
         ensures count { self.old.calls.faults ≤ self.new.calls.faults }
+        ensures asks { HasAsked self.old.asked self.new.asked (name.now ∷ []) }
         ensures same { Some (text_of self.new.texts) ≡ Some (text_of self.old.texts) }
 
         // When it fails, and the whole shelf after the call.
         ensures refused { IsErrOf result FetchFault.Failed
             ↔ (FailsNext self.old.calls ⊎ (text_of self.old.texts name.now ≡ None)) }
         ensures listed { FailsNext self.old.calls
-            → self.new ≡ record self.old { calls = faulted (called self.old.calls) } }
+            → self.new ≡ record self.old { calls = faulted (called self.old.calls); asked = self.new.asked } }
         ensures unlisted { ¬ FailsNext self.old.calls
-            → self.new ≡ record self.old { calls = called self.old.calls } }
+            → self.new ≡ record self.old { calls = called self.old.calls; asked = self.new.asked } }
     {
         into.clear();
+        self.asked.note(self.alloc, name);
         if self.calls.count_call() {
             self.calls.count_fault();
             return Err(FetchFault::Failed);

@@ -12,12 +12,12 @@ there g (Some a) b e = (a, refl, e)
 
 pub mapped : {A B : Type 0} (g : A → B) (o : Option A) (b : B) → option_map g o ≡ Some b → (a : A) × (o ≡ Some a) × (g a ≡ b)
 mapped g None b e = absurd (cc)
-mapped g (Some a) b e = (a, refl, let same : Some (g a) ≡ Some b = e in cc)
+mapped g (Some a) b e = (a, refl, let one : Some (g a) ≡ Some b = e in cc)
 
 -- one more that is there
 all_more : {A : Type 0} (os : List (Option A)) (o : Option A) (all : List A) (a : A) → all_there os ≡ Some all → o ≡ Some a → all_there (os ++ o ∷ []) ≡ Some (all ++ a ∷ [])
 all_more [] o all a e f =
-    let none : [] ≡ all = let same : Some [] ≡ Some all = e in cc in
+    let none : [] ≡ all = let one : Some [] ≡ Some all = e in cc in
     rw (f, sym none) refl
 all_more (x ∷ os) o all a e f =
     let b = there _ x all e in
@@ -42,5 +42,5 @@ none_first (Some a) os e = rw e refl
 -- a member that is not there
 pub no_members : (queries : List Oql) (i : ℕ) (query : Oql) → i < length queries → query ≡ get_or queries i query → lowered query ≡ None → all_there (map lowered queries) ≡ None
 no_members [] i query within is none = absurd (omega arith)
-no_members (x ∷ xs) zero query within is none = let same : lowered x ≡ None = subst (λ q. lowered q ≡ None) is none in rw same refl
+no_members (x ∷ xs) zero query within is none = let one : lowered x ≡ None = subst (λ q. lowered q ≡ None) is none in rw one refl
 no_members (x ∷ xs) (suc i) query within is none = none_first (lowered x) (map lowered xs) (no_members xs i query (omega arith) is none)

@@ -1,11 +1,10 @@
-pub mod ActionLemmas
 pub mod Bags
 pub mod Evaluated
-pub mod FileLemmas
+pub mod JobLaws
 pub mod Lines
 pub mod Lowered
 pub mod RanLemmas
 pub mod Refusing
 pub mod Right
-pub mod Serving
 pub mod StageLemmas
+pub mod StepLaws

@@ -3,7 +3,7 @@ use Rattle.std.proofs.Common.{◌≡◌, ◌≤◌, codes, length, map, drop, ge
 use Rattle.std.specs.Io.KnownBytes.{append_known}
 use Rattle.qc_io.specs.Device.{AppendsFront, Rose}
 use Rattle.qcert.specs.Delivery.{IsPut}
-use Rattle.qcert.specs.Pieces.{joined}
+use Rattle.qcert.specs.inner.Pieces.{joined}
 
 -- a front of a piece is a front of what goes on with it
 take_in : (n : ℕ) (piece rest : List ℕ) → (m : ℕ) × (take n piece ≡ take m (piece ++ rest))

@@ -52,9 +52,9 @@ ints_made : (m : Mode) (f : ℤ → ℤ → ℤ) (o p : Outcome ℤ) → and_the
 ints_made m f (Value n) p = int_made m (f n) p
 ints_made m f (Halts why) p = refl
 
-ints_same : (ds : List Datum) → each json_int (map enc ds) ≡ each as_int ds
-ints_same [] = refl
-ints_same (d ∷ ds) = rw (json_int-enc d, ints_same ds) refl
+ints_agree : (ds : List Datum) → each json_int (map enc ds) ≡ each as_int ds
+ints_agree [] = refl
+ints_agree (d ∷ ds) = rw (json_int-enc d, ints_agree ds) refl
 
 total_made : (m : Mode) (o : Outcome (List ℤ)) → and_then o (λ ns. json_made m (total ns)) ≡ encoded (and_then o (λ ns. made m (total ns)))
 total_made m (Value ns) = json_made-enc m (total ns)
@@ -62,7 +62,7 @@ total_made m (Halts why) = refl
 
 sum_made : (m : Mode) (o : Outcome (List Datum)) → and_then (and_then o (λ xs. Value (map enc xs))) (λ js. and_then (each json_int js) (λ ns. json_made m (total ns)))
     ≡ encoded (and_then (and_then o (λ xs. each as_int xs)) (λ ns. made m (total ns)))
-sum_made m (Value ds) = rw (ints_same ds) (total_made m (each as_int ds))
+sum_made m (Value ds) = rw (ints_agree ds) (total_made m (each as_int ds))
 sum_made m (Halts why) = refl
 
 -- calls whose arguments have encoded outcomes
@@ -82,29 +82,29 @@ arity_one unary.Neg Negate e = refl
 arity_one unary.Sum Sum e = refl
 arity_one op f e = absurd (cc)
 
-one_same : (m : Mode) (c : Defs) (op : Unary) (f : Function) → called_one op ≡ Some f → (d : Datum) → call m f (enc d ∷ []) ≡ encoded (one_value m c op d)
-one_same m c unary.Neg Negate e d = rw (json_int-enc d) (int_made m _ (as_int d))
-one_same m c unary.Sum Sum e d = rw (json_array-enc d) (sum_made m (as_coll d))
-one_same m c op f e d = absurd (cc)
+one_agree : (m : Mode) (c : Defs) (op : Unary) (f : Function) → called_one op ≡ Some f → (d : Datum) → call m f (enc d ∷ []) ≡ encoded (one_value m c op d)
+one_agree m c unary.Neg Negate e d = rw (json_int-enc d) (int_made m _ (as_int d))
+one_agree m c unary.Sum Sum e d = rw (json_array-enc d) (sum_made m (as_coll d))
+one_agree m c op f e d = absurd (cc)
 
 arity_two : (op : Binary) (f : Function) → called_two op ≡ Some f → (2 == arity f) ≡ true
 arity_two binary.Add Add e = refl
 arity_two op f e = absurd (cc)
 
-two_same : (m : Mode) (op : Binary) (f : Function) → called_two op ≡ Some f → (a b : Meaning) (s : Bindings)
+two_agree : (m : Mode) (op : Binary) (f : Function) → called_two op ≡ Some f → (a b : Meaning) (s : Bindings)
     → and_then (in_order (encoded (a s) ∷ encoded (b s) ∷ [])) (call m f) ≡ encoded (of_two m op a b s)
-two_same m binary.Add Add e a b s = two_arguments (a s) (b s) (addition m) (call m Add) (λ x y. rw (json_int-enc x, json_int-enc y) (ints_made m _ (as_int x) (as_int y)))
-two_same m op f e a b s = absurd (cc)
+two_agree m binary.Add Add e a b s = two_arguments (a s) (b s) (addition m) (call m Add) (λ x y. rw (json_int-enc x, json_int-enc y) (ints_made m _ (as_int x) (as_int y)))
+two_agree m op f e a b s = absurd (cc)
 
 -- ---- trees with what they become
 
 -- the expression answers the encoding of what the meaning gives, and its calls have their arguments
-pub record IsSame (meaning : Mode → WorldOf → Meaning) (e : Expr) : Type 0 where
+pub record IsFaithful (meaning : Mode → WorldOf → Meaning) (e : Expr) : Type 0 where
   pub arities : has_arities e ≡ true
-  pub same : (m : Mode) (w : WorldOf) (s : Bindings) → js_expr m e (enc w.datum) ≡ encoded (meaning m w s)
+  pub agrees : (m : Mode) (w : WorldOf) (s : Bindings) → js_expr m e (enc w.datum) ≡ encoded (meaning m w s)
 
 abbrev OfOql : Oql → Type 0
-OfOql x = (e : Expr) → lowered x ≡ Some e → IsSame (λ m w. oql m w x) e
+OfOql x = (e : Expr) → lowered x ≡ Some e → IsFaithful (λ m w. oql m w x) e
 
 -- the other trees become nothing
 abbrev Any : {A : Type 0} → A → Type 0
@@ -127,11 +127,11 @@ abbrev meaning_at : Oql-F Oql Filter Key Named Order Select → Mode → WorldOf
 meaning_at x m w = form m w (map-Oql Oql Filter Key Named Order Select Meaning Meaning KeyMeaning NamedMeaning (List KeyMeaning) Meaning (oql m w) (filter m w) (key m w) (named m w) (order m w) (select m w) x)
 
 -- a member and the others
-cons_same : (o : Outcome Datum) (os : Outcome (List Datum)) → and_then (alone (encoded o)) (λ ys. and_then (and_then os (λ ds. Value (map enc ds))) (λ zs. Value (ys ++ zs)))
+cons_agree : (o : Outcome Datum) (os : Outcome (List Datum)) → and_then (alone (encoded o)) (λ ys. and_then (and_then os (λ ds. Value (map enc ds))) (λ zs. Value (ys ++ zs)))
     ≡ and_then (and_then (alone o) (λ ys. and_then os (λ zs. Value (ys ++ zs)))) (λ ds. Value (map enc ds))
-cons_same (Value d) (Value ds) = refl
-cons_same (Value d) (Halts why) = refl
-cons_same (Halts why) os = refl
+cons_agree (Value d) (Value ds) = refl
+cons_agree (Value d) (Halts why) = refl
+cons_agree (Halts why) os = refl
 
 array_made : (o : Outcome (List Datum)) → and_then (and_then o (λ ds. Value (map enc ds))) (λ js. Value (json.Array js)) ≡ encoded (bag o)
 array_made (Value ds) = ap Value (sym (enc-Coll ds))
@@ -139,10 +139,10 @@ array_made (Halts why) = refl
 
 record AreSame (ps : List Part) (es : List Expr) : Type 0 where
   arities : all_true (map has_arities es) ≡ true
-  same : (m : Mode) (w : WorldOf) (s : Bindings) → each (λ e. js_expr m e (enc w.datum)) es ≡ and_then (each (λ member. member s) (map (oql m w) (map (λ p. p.0) ps))) (λ ds. Value (map enc ds))
+  agrees : (m : Mode) (w : WorldOf) (s : Bindings) → each (λ e. js_expr m e (enc w.datum)) es ≡ and_then (each (λ member. member s) (map (oql m w) (map (λ p. p.0) ps))) (λ ds. Value (map enc ds))
 
 members : (ps : List Part) (es : List Expr) → all_there (map lowered (map (λ p. p.0) ps)) ≡ Some es → AreSame ps es
-members [] [] h = record { arities = refl; same = λ m w s. refl }
+members [] [] h = record { arities = refl; agrees = λ m w s. refl }
 members [] (e ∷ es) h = absurd (cc)
 members (p ∷ ps) es h =
     let a = there _ (lowered p.0) es h in
@@ -151,30 +151,30 @@ members (p ∷ ps) es h =
     let rest = members ps b.0 b.1 in
     subst (AreSame (p ∷ ps)) b.2 (record {
       arities = rw (first.arities, rest.arities) refl;
-      same = λ m w s. rw (first.same m w s, rest.same m w s) (cons_same (oql m w p.0 s) (each (λ member. member s) (map (oql m w) (map (λ p. p.0) ps))));
+      agrees = λ m w s. rw (first.agrees m w s, rest.agrees m w s) (cons_agree (oql m w p.0 s) (each (λ member. member s) (map (oql m w) (map (λ p. p.0) ps))));
     })
 
-layer : (p : Parts) (e : Expr) → lowered_at (trees p) ≡ Some e → IsSame (meaning_at (trees p)) e
+layer : (p : Parts) (e : Expr) → lowered_at (trees p) ≡ Some e → IsFaithful (meaning_at (trees p)) e
 layer (Oql-F.Whole at n) e h =
-    let is : Int n ≡ e = let same : Some (Int n) ≡ Some e = h in cc in
-    subst (IsSame (meaning_at (trees (Oql-F.Whole at n)))) is (record {
+    let is : Int n ≡ e = let one : Some (Int n) ≡ Some e = h in cc in
+    subst (IsFaithful (meaning_at (trees (Oql-F.Whole at n)))) is (record {
       arities = has_arities-Int n;
-      same = λ m w s. js_expr-Int m n (enc w.datum) ∙ ap Value (sym (enc-Int n));
+      agrees = λ m w s. js_expr-Int m n (enc w.datum) ∙ ap Value (sym (enc-Int n));
     })
 layer (Oql-F.Bag at ps) e h =
     let a = mapped Array (all_there (map lowered (map (λ p. p.0) ps))) e h in
     let all = members ps a.0 a.1 in
-    subst (IsSame (meaning_at (trees (Oql-F.Bag at ps)))) a.2 (record {
+    subst (IsFaithful (meaning_at (trees (Oql-F.Bag at ps)))) a.2 (record {
       arities = rw (has_arities-Array a.0) all.arities;
-      same = λ m w s. rw (js_expr-Array m a.0 (enc w.datum), all.same m w s) (array_made (each (λ member. member s) (map (oql m w) (map (λ p. p.0) ps))));
+      agrees = λ m w s. rw (js_expr-Array m a.0 (enc w.datum), all.agrees m w s) (array_made (each (λ member. member s) (map (oql m w) (map (λ p. p.0) ps))));
     })
 layer (Oql-F.Unary at op p) e h =
     let a = there _ (called_one op) e h in
     let b = mapped _ (lowered p.0) e a.2 in
     let part = p.1 b.0 b.1 in
-    subst (IsSame (meaning_at (trees (Oql-F.Unary at op p)))) b.2 (record {
+    subst (IsFaithful (meaning_at (trees (Oql-F.Unary at op p)))) b.2 (record {
       arities = rw (has_arities-Call a.0 (b.0 ∷ []), part.arities, arity_one op a.0 a.1) refl;
-      same = λ m w s. rw (js_expr-Call m a.0 (b.0 ∷ []) (enc w.datum), part.same m w s) (one_argument (oql m w p.0 s) (one_value m w.classes op) (call m a.0) (one_same m w.classes op a.0 a.1));
+      agrees = λ m w s. rw (js_expr-Call m a.0 (b.0 ∷ []) (enc w.datum), part.agrees m w s) (one_argument (oql m w p.0 s) (one_value m w.classes op) (call m a.0) (one_agree m w.classes op a.0 a.1));
     })
 layer (Oql-F.Binary at op p q) e h =
     let a = there _ (called_two op) e h in
@@ -182,22 +182,22 @@ layer (Oql-F.Binary at op p q) e h =
     let c = mapped _ (lowered q.0) e b.2 in
     let left = p.1 b.0 b.1 in
     let right = q.1 c.0 c.1 in
-    subst (IsSame (meaning_at (trees (Oql-F.Binary at op p q)))) c.2 (record {
+    subst (IsFaithful (meaning_at (trees (Oql-F.Binary at op p q)))) c.2 (record {
       arities = rw (has_arities-Call a.0 (b.0 ∷ c.0 ∷ []), left.arities, right.arities, arity_two op a.0 a.1) refl;
-      same = λ m w s. rw (js_expr-Call m a.0 (b.0 ∷ c.0 ∷ []) (enc w.datum), left.same m w s, right.same m w s) (two_same m op a.0 a.1 (oql m w p.0) (oql m w q.0) s);
+      agrees = λ m w s. rw (js_expr-Call m a.0 (b.0 ∷ c.0 ∷ []) (enc w.datum), left.agrees m w s, right.agrees m w s) (two_agree m op a.0 a.1 (oql m w p.0) (oql m w q.0) s);
     })
 layer p e h = absurd (cc)
 
 -- ---- by induction
 
-of_oql : (x : Oql-F Oql Filter Key Named Order Select) → ((e : Expr) → lowered_at x ≡ Some e → IsSame (meaning_at x) e) → OfOql (roll-Oql x)
+of_oql : (x : Oql-F Oql Filter Key Named Order Select) → ((e : Expr) → lowered_at x ≡ Some e → IsFaithful (meaning_at x) e) → OfOql (roll-Oql x)
 of_oql x h e is =
     let low : lowered (roll-Oql x) ≡ lowered_at x = fold-roll-Oql (Option Expr) (Unit {0}) (Unit {0}) (Unit {0}) (Unit {0}) (Unit {0}) lower_form (λ f. tt) (λ k. tt) (λ n. tt) (λ o. tt) (λ s. tt) x in
     let r = h e (sym low ∙ is) in
     record {
       arities = r.arities;
-      same = λ m w s. rw (fold-roll-Oql Meaning Meaning KeyMeaning NamedMeaning (List KeyMeaning) Meaning (form m w) filter_form key_form named_form order_form select_form x) (r.same m w s);
+      agrees = λ m w s. rw (fold-roll-Oql Meaning Meaning KeyMeaning NamedMeaning (List KeyMeaning) Meaning (form m w) filter_form key_form named_form order_form select_form x) (r.agrees m w s);
     }
 
-pub lowered_same : (x : Oql) → OfOql x
-lowered_same = ind-Oql OfOql Any Any Any Any Any (λ x p is. subst (λ z. OfOql (roll-Oql z)) is (of_oql (trees p) (layer p))) (λ x p is. tt) (λ x p is. tt) (λ x p is. tt) (λ x p is. tt) (λ x p is. tt)
+pub lowered_faithful : (x : Oql) → OfOql x
+lowered_faithful = ind-Oql OfOql Any Any Any Any Any (λ x p is. subst (λ z. OfOql (roll-Oql z)) is (of_oql (trees p) (layer p))) (λ x p is. tt) (λ x p is. tt) (λ x p is. tt) (λ x p is. tt) (λ x p is. tt)

@@ -1,92 +1,114 @@
--- Each stage of a job accepts or refuses, and for one reason, where texts are told and the shelf did not fail.
-use Rattle.std.proofs.Common.{◌≡◌, ◌≢◌, inl, inr, sym, ◌∙◌, ap, ℕ, List, Option, Some, None, codes}
-use Rattle.qc_data.specs.declared.data.Datum.{Datum}
-use Rattle.qc_data.specs.declared.data.Json.{Json}
-use Rattle.qc_data.specs.Decoding.{dec}
-use Rattle.qc_io.specs.Device.{Texts}
-use Rattle.qc_types.specs.Schemas.{SchemaOf}
-use Rattle.qc_schema.specs.Reading.{Means}
-use Rattle.qc_schema.specs.Inputs.{MeansWorld}
-use Rattle.qc_schema.specs.SchemaFile.{MeansSchema, schema_of}
-use Rattle.qc_oql.specs.declared.reading.TypedQuery.{TypedQuery}
-use Rattle.qc_oql.specs.Queries.{IsQuery}
-use Rattle.qc_oql.proofs.QueryLaws.{query_once, query_good, fault_once}
-use Rattle.qcert.specs.declared.refusal.File.TheVariants.{Schema, Query, Input}
+-- Functions that take steps, one after the other on one shelf.
+use Rattle.std.proofs.Common.{Some, None, ◌≤◌, ◌≡◌, ◌⊎◌, inl, inr, refl, sym, ◌∙◌, ap, subst, ℕ, List, [], ◌++◌, Option, Result, Ok, Err, MatchResult, arith}
+use Rattle.std.specs.Result.{result_map_both}
+use Rattle.std.proofs.lemmas.List.{append_assoc, append-nil}
+use Rattle.qc_io.specs.Device.{Texts, Rose, HasAsked, and_then_asked}
+use Rattle.qcert.specs.declared.refusal.File.{File}
 use Rattle.qcert.specs.declared.refusal.Refusal.{Refusal}
 use Rattle.qcert.specs.declared.refusal.Refusal.TheVariants.{Memory}
-use Rattle.qcert.specs.Causes.{of_query}
-use Rattle.qcert.specs.Stages.{AcceptsSchema, IsBadSchema, RefusesSchema, AcceptsQuery, IsBadQuery, RefusesQuery, AcceptsInput, IsBadInput, RefusesInput}
-use Rattle.qcert.proofs.FileLemmas.{file_once, file_means, file_read}
+use Rattle.qcert.specs.inner.Promises.{Stage, Computes, Acts}
+use Rattle.qcert.specs.Files.{fetch, read_as}
+use Rattle.qcert.specs.Steps.{Step, Visit, Ended, MayEnd, firm, pure, then}
+use Rattle.qcert.specs.Work.{Work, Gives, Refuses, IsClear, act}
 
--- ---- what bytes mean
+abbrev Names : Type 0
+Names = List (List ℕ)
 
-same_tree : (bytes : List ℕ) (j k : Json) → Means bytes j → Means bytes k → j ≡ k
-same_tree bytes j k a b =
-    let same : Some j ≡ Some k = sym a.1 ∙ b.1 in
-    cc
+pub itself : (n : ℕ) → n ≤ n
+itself n = omega arith
 
-same_schema : (bytes : List ℕ) (s t : SchemaOf) → MeansSchema bytes s → MeansSchema bytes t → s ≡ t
-same_schema bytes s t a b =
-    let same : Some s ≡ Some t = sym a.2 ∙ ap schema_of (same_tree bytes a.0 b.0 a.1 b.1) ∙ b.2 in
-    cc
+-- ---- what a shelf was asked for
 
-same_world : (schema : SchemaOf) (bytes : List ℕ) (d e : Datum) → MeansWorld bytes schema d → MeansWorld bytes schema e → d ≡ e
-same_world schema bytes d e a b =
-    let same : Some d ≡ Some e = sym a.2 ∙ ap dec (same_tree bytes a.0 b.0 a.1 b.1) ∙ b.2 in
-    cc
+none_asked : (old : Option Names) → HasAsked old old []
+none_asked None = inl refl
+none_asked (Some names) = inr (ap (λ (l : Names). Some l) (sym (append-nil names)))
 
--- ---- why bytes are refused
+asked_twice : (old : Option Names) (a b : Names) → and_then_asked (and_then_asked old a) b ≡ and_then_asked old (a ++ b)
+asked_twice None a b = refl
+asked_twice (Some names) a b = ap (λ (l : Names). Some l) (append_assoc names a b)
 
-bad_schema_once : (bytes : List ℕ) (r s : Refusal) → r ≢ Memory → s ≢ Memory → IsBadSchema bytes r → IsBadSchema bytes s → r ≡ s
-bad_schema_once bytes r s m n u v = u.0 ∙ sym v.0
+asked_after : (old mid new : Option Names) (a b : Names) → HasAsked old mid a → HasAsked mid new b → HasAsked old new (a ++ b)
+asked_after old mid new a b u (inl none) = inl none
+asked_after old mid new a b (inl none) (inr e) = inl (e ∙ ap (λ (o : Option Names). and_then_asked o b) none)
+asked_after old mid new a b (inr d) (inr e) = inr (e ∙ ap (λ (o : Option Names). and_then_asked o b) d ∙ asked_twice old a b)
 
-bad_input_once : (schema : SchemaOf) (bytes : List ℕ) (r s : Refusal) → r ≢ Memory → s ≢ Memory → IsBadInput schema bytes r → IsBadInput schema bytes s → r ≡ s
-bad_input_once schema bytes r s m n u v = u.0 ∙ sym v.0
+-- ---- steps
 
-bad_query_once : (schema : SchemaOf) (bytes : List ℕ) (r s : Refusal) → r ≢ Memory → s ≢ Memory → IsBadQuery schema bytes r → IsBadQuery schema bytes s → r ≡ s
-bad_query_once schema bytes r s m n u v =
-    u.2 ∙ ap of_query (fault_once schema bytes u.0 v.0 (λ e. m (u.2 ∙ ap of_query e)) (λ e. n (v.2 ∙ ap of_query e)) u.1 v.1) ∙ sym v.2
+-- what a visit is
+abbrev at : Option Texts → ℕ → ℕ → Option Names → Option Names → Visit
+at texts before after old new = record { texts = texts; faults_old = before; faults_new = after; asked_old = old; asked_new = new }
 
-bad_query_good : (schema : SchemaOf) (bytes : List ℕ) (typed : TypedQuery) (r : Refusal) → IsQuery schema bytes typed → IsBadQuery schema bytes r → r ≡ Memory
-bad_query_good schema bytes typed r a u = u.2 ∙ ap of_query (query_good schema bytes typed u.0 a u.1)
+-- a computation asks for nothing
+pub computed : {A : Type 0} (Accepts : A → Type 0) (Refuses : Refusal → Type 0) (texts : Option Texts) (n : ℕ) (names : Option Names) (ending : Result A Refusal)
+    → MatchResult ending Accepts (λ r. Refuses r ⊎ (r ≡ Memory)) → Stage (firm Accepts Refuses) (at texts n n names names) ending
+computed Accepts Refuses texts n names (Ok x) u = λ before after le ge. record { ends = u; names = []; asks = refl; asked = none_asked names }
+computed Accepts Refuses texts n names (Err r) (inl u) = λ before after le ge. record { ends = inl u; names = []; asks = refl; asked = none_asked names }
+computed Accepts Refuses texts n names (Err r) (inr e) = λ before after le ge. record { ends = inr (inr e); names = []; asks = refl; asked = none_asked names }
 
--- ---- the stages
+pub pure_stage : {A : Type 0} (x : A) (texts : Option Texts) (n : ℕ) (names : Option Names) → Stage (pure x) (at texts n n names names) (Ok x)
+pure_stage x texts n names = computed (λ y. y ≡ x) (λ r. ⊥) texts n names (Ok x) refl
 
-module _ (text_of : Texts) where
-  pub one_schema : (name : Option (List ℕ)) (x y : SchemaOf) → AcceptsSchema (Some text_of) name x → AcceptsSchema (Some text_of) name y → x ≡ y
-  one_schema None x y a b = a ∙ sym b
-  one_schema (Some name) x y a b = file_means text_of Schema name MeansSchema same_schema x y a b
+module _ {A B : Type 0} (first : Step A) (next : A → Step B) where
+  module _ (texts : Option Texts) (n m : ℕ) (old new : Option Names) where
+    -- the first step was refused
+    pub stops : (r : Refusal) → Stage first (at texts n m old new) (Err r) → Stage (then first next) (at texts n m old new) (Err r)
+    stops r u = λ before after le ge.
+        let s = u before after le ge in
+        record { ends = inl s.ends; names = s.names; asks = inl s.asks; asked = s.asked }
 
-  pub one_query : (schema : SchemaOf) (name : List ℕ) (x y : TypedQuery) → AcceptsQuery (Some text_of) schema name x → AcceptsQuery (Some text_of) schema name y → x ≡ y
-  one_query schema name x y a b = file_means text_of Query name (IsQuery schema) (query_once schema) x y a b
+  goes_so : (x : A) (texts : Option Texts) (failed : Type 0) (ending : Result B Refusal) → first.accepts texts x → MayEnd (next x) texts failed ending
+      → MayEnd (then first next) texts failed ending
+  goes_so x texts failed (Ok y) a u = (x, a, u)
+  goes_so x texts failed (Err r) a u = inr (x, a, u)
 
-  pub one_input : (schema : SchemaOf) (name : Option (List ℕ)) (x y : Datum) → AcceptsInput (Some text_of) schema name x → AcceptsInput (Some text_of) schema name y → x ≡ y
-  one_input schema None x y a b = same_world schema (codes "{}") x y a b
-  one_input schema (Some name) x y a b = file_means text_of Input name (λ bytes d. MeansWorld bytes schema d) (same_world schema) x y a b
+  module _ (texts mid : Option Texts) (n m k : ℕ) (old asked new : Option Names) (x : A) (ending : Result B Refusal) where
+    -- the first step accepted a value, and the next step ended
+    pub goes : mid ≡ texts → n ≤ m → m ≤ k → Stage first (at texts n m old asked) (Ok x) → Stage (next x) (at mid m k asked new) ending
+        → Stage (then first next) (at texts n k old new) ending
+    goes kept up on u w = λ before after le ge.
+        let s = u before after le (omega arith) in
+        let here : Stage (next x) (at texts m k asked new) ending = subst (λ (t : Option Texts). Stage (next x) (at t m k asked new) ending) kept w in
+        let v = here before after (omega arith) ge in
+        record {
+          ends = goes_so x texts (Rose before after) ending s.ends v.ends;
+          names = s.names ++ v.names;
+          asks = inr (x, s.ends, s.names, v.names, s.asks, v.asks, refl);
+          asked = asked_after old asked new s.names v.names s.asked v.asked;
+        }
 
-module _ (text_of : Texts) (failed : Type 0) (sound : ¬ failed) where
-  pub schema_read : (name : Option (List ℕ)) (x : SchemaOf) (r : Refusal) → AcceptsSchema (Some text_of) name x → RefusesSchema (Some text_of) failed name r → r ≡ Memory
-  schema_read None x r a u = absurd u
-  schema_read (Some name) x r a u = file_read text_of Schema name MeansSchema failed sound IsBadSchema (λ bytes y s m b. absurd (b.1 y m)) x r a u
+-- ---- a file
 
-  pub query_read : (schema : SchemaOf) (name : List ℕ) (x : TypedQuery) (r : Refusal) → AcceptsQuery (Some text_of) schema name x → RefusesQuery (Some text_of) failed schema name r → r ≡ Memory
-  query_read schema name x r a u = file_read text_of Query name (IsQuery schema) failed sound (IsBadQuery schema) (bad_query_good schema) x r a u
+module _ {A : Type 0} (Means : List ℕ → A → Type 0) (IsBad : List ℕ → Refusal → Type 0) (file : File) (name : List ℕ)
+    (texts : Option Texts) (n m : ℕ) (old new : Option Names) where
+  -- the file was not fetched
+  pub unread : (r : Refusal) → Stage (fetch file name) (at texts n m old new) (Err r) → Stage (read_as Means IsBad file name) (at texts n m old new) (Err r)
+  unread r u = stops (fetch file name) (λ bytes. firm (Means bytes) (IsBad bytes)) texts n m old new r u
 
-  pub input_read : (schema : SchemaOf) (name : Option (List ℕ)) (x : Datum) (r : Refusal) → AcceptsInput (Some text_of) schema name x → RefusesInput (Some text_of) failed schema name r → r ≡ Memory
-  input_read schema None x r a (inl u) = absurd (u.1 x a)
-  input_read schema None x r a (inr e) = e
-  input_read schema (Some name) x r a u = file_read text_of Input name (λ bytes d. MeansWorld bytes schema d) failed sound (IsBadInput schema) (λ bytes y s m b. absurd (b.1 y m)) x r a u
+  -- the file was fetched, and its text was read
+  pub read : (bytes : List ℕ) (ending : Result A Refusal) → n ≤ m → Stage (fetch file name) (at texts n m old new) (Ok bytes)
+      → MatchResult ending (Means bytes) (λ r. IsBad bytes r ⊎ (r ≡ Memory)) → Stage (read_as Means IsBad file name) (at texts n m old new) ending
+  read bytes ending up u w =
+      goes (fetch file name) (λ bytes. firm (Means bytes) (IsBad bytes)) texts texts n m m old new new bytes ending refl up (itself m) u
+      (computed (Means bytes) (IsBad bytes) texts m new ending w)
 
-module _ (text_of : Texts) (p q : Type 0) (no_p : ¬ p) (no_q : ¬ q) where
-  pub schema_once : (name : Option (List ℕ)) (r s : Refusal) → r ≢ Memory → s ≢ Memory → RefusesSchema (Some text_of) p name r → RefusesSchema (Some text_of) q name s → r ≡ s
-  schema_once None r s m n u v = absurd u
-  schema_once (Some name) r s m n u v = file_once text_of Schema name p q no_p no_q IsBadSchema bad_schema_once r s m n u v
+-- ---- work
 
-  pub query_refused_once : (schema : SchemaOf) (name : List ℕ) (r s : Refusal) → r ≢ Memory → s ≢ Memory → RefusesQuery (Some text_of) p schema name r → RefusesQuery (Some text_of) q schema name s → r ≡ s
-  query_refused_once schema name r s m n u v = file_once text_of Query name p q no_p no_q (IsBadQuery schema) (bad_query_once schema) r s m n u v
+-- the files of a job were read, and the work was done
+pub acted : (reading : Step Work) (work : Work) {T : Type 0} (bytes : T → List ℕ) (result : Result T Refusal) (texts : Option Texts) (n m : ℕ) (old new : Option Names)
+    → n ≤ m → Stage reading (at texts n m old new) (Ok work) → Acts bytes work result
+    → Stage (then reading act) (at texts n m old new) (result_map_both bytes (λ (r : Refusal). r) result)
+acted reading work bytes (Ok t) texts n m old new up u w =
+    goes reading act texts texts n m m old new new work (Ok (bytes t)) refl up (itself m) u
+    (computed (λ text. Gives work text × IsClear work) (Refuses work) texts m new (Ok (bytes t)) w)
+acted reading work bytes (Err r) texts n m old new up u w =
+    goes reading act texts texts n m m old new new work (Err r) refl up (itself m) u
+    (computed (λ text. Gives work text × IsClear work) (Refuses work) texts m new (Err r) w)
 
-  pub input_once : (schema : SchemaOf) (name : Option (List ℕ)) (r s : Refusal) → r ≢ Memory → s ≢ Memory → RefusesInput (Some text_of) p schema name r → RefusesInput (Some text_of) q schema name s → r ≡ s
-  input_once schema None r s m n (inl u) (inl v) = u.0 ∙ sym v.0
-  input_once schema None r s m n (inr e) v = absurd (m e)
-  input_once schema None r s m n u (inr e) = absurd (n e)
-  input_once schema (Some name) r s m n u v = file_once text_of Input name p q no_p no_q (IsBadInput schema) (bad_input_once schema) r s m n u v
+-- a step, and then what was made of its value
+pub made : {A B : Type 0} (first : Step A) (make : A → B) (x : A) (texts : Option Texts) (n m : ℕ) (old new : Option Names)
+    → n ≤ m → Stage first (at texts n m old new) (Ok x) → Stage (then first (λ y. pure (make y))) (at texts n m old new) (Ok (make x))
+made first make x texts n m old new up u =
+    goes first (λ y. pure (make y)) texts texts n m m old new new x (Ok (make x)) refl up (itself m) u (pure_stage (make x) texts m new)
+
+pub up : (a b c : ℕ) → a ≤ b → b ≤ c → a ≤ c
+up a b c le more = omega arith

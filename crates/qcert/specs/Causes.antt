@@ -7,7 +7,8 @@ use Rattle.qc_schema.specs.declared.faults.SchemaFault.{SchemaFault}
 use Rattle.qc_schema.specs.declared.faults.SchemaFault.TheVariants as schema
 use Rattle.qcert.specs.declared.refusal.File.TheVariants.{Query}
 use Rattle.qcert.specs.declared.refusal.Refusal.{Refusal}
-use Rattle.qcert.specs.declared.refusal.Refusal.TheVariants.{BadSchema, BadScan, TooManyTokens, BadSyntax, BadType, BadInput, Memory}
+use Rattle.qcert.specs.declared.refusal.Refusal.TheVariants.{BadSchema, BadScan, TooManyTokens, BadSyntax, BadType}
+use Rattle.qcert.specs.declared.refusal.Refusal.TheVariants.{BadInput, Memory}
 
 abbrev pub of_schema : SchemaFault → Refusal
 of_schema schema.BadSchema = BadSchema

@@ -1,12 +1,14 @@
--- How an answer reaches the outputs and the status.
+-- How an ending reaches the outputs and the status.
 use Rattle.std.specs.Prelude.{◌≡◌, ◌⊎◌, ℕ, List, [], ◌∷◌, ◌++◌, Option, Result, Ok, Err, codes}
 use Rattle.std.specs.Fmt.{decimal}
 use Rattle.std.specs.Io.KnownBytes.{append_known}
-use Rattle.qc_io.specs.Device.{AppendsFront}
+use Rattle.qc_io.specs.Device.{AppendsFront, Rose}
 use Rattle.qcert.specs.declared.refusal.File.{File}
 use Rattle.qcert.specs.declared.refusal.File.TheVariants.{Schema, Query, Input, Script}
 use Rattle.qcert.specs.declared.refusal.Refusal.{Refusal}
-use Rattle.qcert.specs.declared.refusal.Refusal.TheVariants.{Usage, ReadFault, TooLong, BadSchema, BadScan, TooManyTokens, BadSyntax, BadType, Unbuilt, BadInput, Range, WriteFault, Memory}
+use Rattle.qcert.specs.declared.refusal.Refusal.TheVariants.{Usage, ReadFault, TooLong, BadSchema, BadScan}
+use Rattle.qcert.specs.declared.refusal.Refusal.TheVariants.{TooManyTokens, BadSyntax, BadType, Unbuilt}
+use Rattle.qcert.specs.declared.refusal.Refusal.TheVariants.{BadInput, Range, WriteFault, Memory}
 
 abbrev pub status_of : Refusal → ℕ
 status_of Usage = 2
@@ -48,36 +50,60 @@ refusal_text Memory = codes "Memory"
 abbrev pub fault_line : Refusal → List ℕ
 fault_line refusal = codes "qcert: " ++ refusal_text refusal ++ 10 ∷ []
 
--- the bytes were added, or a front of them where the sink failed
+-- ---- what was put
+
+-- the bytes that an output has and had, where they are told, and its counts of faults before and after
+pub record Put : Type 0 where
+  pub old : Option (List ℕ)
+  pub new : Option (List ℕ)
+  pub faults_old : ℕ
+  pub faults_new : ℕ
+
+-- what was put into an output between two of its states
+abbrev pub put : {O : Type 0} → (O → Option (List ℕ)) → (O → ℕ) → O → O → Put
+put written faults old new = record {
+  old = written old;
+  new = written new;
+  faults_old = faults old;
+  faults_new = faults new;
+}
+
+-- the output failed
+abbrev pub OutputFailed : Put → Type 0
+OutputFailed output = Rose output.faults_old output.faults_new
+
+-- the bytes were added, or a front of them where the output failed
 abbrev pub IsPut : Option (List ℕ) → Option (List ℕ) → Type 0 → List ℕ → Type 0
 IsPut old new failed bytes = (new ≡ append_known old bytes) ⊎ (failed × AppendsFront old new bytes)
 
 -- the fault line was put
-abbrev pub Complains : Option (List ℕ) → Option (List ℕ) → Type 0 → Refusal → Type 0
-Complains old new failed refusal = IsPut old new failed (fault_line refusal)
+abbrev pub Complains : Put → Refusal → Type 0
+Complains err refusal = IsPut err.old err.new (OutputFailed err) (fault_line refusal)
 
 -- the text was put whole
-pub record IsWhole (out_old out_new err_old err_new : Option (List ℕ)) (status : ℕ) (text : List ℕ) : Type 0 where
+pub record IsWhole (out err : Put) (status : ℕ) (text : List ℕ) : Type 0 where
   pub is_status : status ≡ 0
-  pub out : out_new ≡ append_known out_old text
-  pub err : err_new ≡ err_old
+  pub added : out.new ≡ append_known out.old text
+  pub still : err.new ≡ err.old
 
 -- a front of the text was put, since the output failed
-pub record IsCutShort (out_old out_new err_old err_new : Option (List ℕ)) (out_failed err_failed : Type 0) (status : ℕ) (text : List ℕ) : Type 0 where
+pub record IsCutShort (out err : Put) (status : ℕ) (text : List ℕ) : Type 0 where
   pub is_status : status ≡ status_of WriteFault
-  pub failed : out_failed
-  pub out : AppendsFront out_old out_new text
-  pub err : Complains err_old err_new err_failed WriteFault
+  pub failed : OutputFailed out
+  pub front : AppendsFront out.old out.new text
+  pub complaint : Complains err WriteFault
 
--- nothing was put
-pub record IsRefused (out_old out_new err_old err_new : Option (List ℕ)) (err_failed : Type 0) (status : ℕ) (refusal : Refusal) : Type 0 where
+-- nothing was put into the output, and the fault line told of the refusal
+pub record IsRefused (out err : Put) (status : ℕ) (refusal : Refusal) : Type 0 where
   pub is_status : status ≡ status_of refusal
-  pub out : out_new ≡ out_old
-  pub err : Complains err_old err_new err_failed refusal
+  pub still : out.new ≡ out.old
+  pub complaint : Complains err refusal
 
--- what the answer did to the outputs and to the status
-abbrev pub IsDelivered : Result (List ℕ) Refusal → Option (List ℕ) → Option (List ℕ) → Type 0 → Option (List ℕ) → Option (List ℕ) → Type 0 → ℕ → Type 0
-IsDelivered (Ok text) out_old out_new out_failed err_old err_new err_failed status =
-    IsWhole out_old out_new err_old err_new status text ⊎ IsCutShort out_old out_new err_old err_new out_failed err_failed status text
-IsDelivered (Err refusal) out_old out_new out_failed err_old err_new err_failed status =
-    IsRefused out_old out_new err_old err_new err_failed status refusal
+-- it was refused for this, or for want of memory
+abbrev pub IsRefusedFor : Put → Put → ℕ → Refusal → Type 0
+IsRefusedFor out err status due = IsRefused out err status due ⊎ IsRefused out err status Memory
+
+-- what the ending did to the outputs and to the status
+abbrev pub IsDelivered : Result (List ℕ) Refusal → Put → Put → ℕ → Type 0
+IsDelivered (Ok text) out err status = IsWhole out err status text ⊎ IsCutShort out err status text
+IsDelivered (Err refusal) out err status = IsRefused out err status refusal

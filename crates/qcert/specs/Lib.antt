@@ -1,10 +1,12 @@
-pub mod Answer
 pub mod Causes
 pub mod Delivery
 pub mod Files
-pub mod Job
+pub mod Jobs
 pub mod Lowering
-pub mod Pieces
 pub mod Ran
+pub mod Reading
 pub mod Right
-pub mod Stages
+pub mod Sources
+pub mod Steps
+pub mod Work
+pub mod inner

@@ -10,9 +10,10 @@ use Rattle.qc_oql_tree.specs.declared.tree.Oql.{Oql}
 use Rattle.qc_oql_tree.specs.declared.tree.Oql.TheOpen.{Oql-F}
 use Rattle.qc_oql_tree.specs.declared.tree.Oql.TheFolds.{fold-Oql}
 use Rattle.qc_oql_tree.specs.declared.tree.Named.{Named}
-use Rattle.qc_oql_tree.specs.declared.tree.Query.{Query}
 use Rattle.qc_oql_tree.specs.declared.tree.Unary.{Unary}
 use Rattle.qc_oql_tree.specs.declared.tree.Unary.TheVariants as unary
+use Rattle.qcert.specs.declared.sources.Query.{Query}
+use Rattle.qcert.specs.declared.sources.Query.TheVariants as query
 
 -- all members, where each is there
 abbrev pub all_there : {A : Type 0} → List (Option A) → Option (List A)
@@ -37,7 +38,8 @@ call_one f a = option_and_then (λ f. option_map (λ e. Call f (e ∷ [])) a) f
 abbrev pub call_two : Option Function → Option Expr → Option Expr → Option Expr
 call_two f a b = option_and_then (λ f. option_and_then (λ e. option_map (λ d. Call f (e ∷ d ∷ [])) b) a) f
 
--- whole numbers, listed bags, and operators that are functions of the runtime, by what their parts become; no other form is compiled yet
+-- whole numbers, listed bags, and operators that are functions of the runtime, by what their parts become; no other
+-- form is compiled yet
 abbrev pub lower_form : Oql-F (Option Expr) (Unit {0}) (Unit {0}) (Unit {0}) (Unit {0}) (Unit {0}) → Option Expr
 lower_form (Oql-F.Whole at n) = Some (Int n)
 lower_form (Oql-F.Bag at members) = option_map Array (all_there members)
@@ -47,7 +49,8 @@ lower_form _ = None
 
 -- the expression that an expression of OQL becomes, if it is compiled
 abbrev pub lowered : Oql → Option Expr
-lowered x = fold-Oql (Option Expr) (Unit {0}) (Unit {0}) (Unit {0}) (Unit {0}) (Unit {0}) lower_form (λ f. tt) (λ k. tt) (λ n. tt) (λ o. tt) (λ s. tt) x
+lowered x = fold-Oql (Option Expr) (Unit {0}) (Unit {0}) (Unit {0}) (Unit {0}) (Unit {0}) lower_form
+    (λ f. tt) (λ k. tt) (λ n. tt) (λ o. tt) (λ s. tt) x
 
 -- the expression that a query without definitions becomes
 abbrev pub lowered_body : List Named → Oql → Option Expr
@@ -56,4 +59,4 @@ lowered_body (d ∷ ds) body = None
 
 -- the expression that a query becomes, if it is compiled
 abbrev pub lowered_query : Query → Option Expr
-lowered_query q = lowered_body q.defines q.body
+lowered_query (query.Oql typed) = lowered_body typed.query.defines typed.query.body

@@ -1,61 +1,67 @@
 -- What a call of the program did.
-use Rattle.std.specs.Prelude.{◌≡◌, ◌≢◌, ℕ, List, Option, Some, Result, Err}
+use Rattle.std.specs.Prelude.{◌≡◌, ℕ, List, Option, Some, None, Result, Err}
 use Rattle.std.specs.Io.KnownBytes.{append_known}
-use Rattle.qc_io.specs.Device.{Texts}
-use Rattle.qc_types.specs.Schemas.{SchemaOf}
-use Rattle.qc_oql.specs.declared.reading.TypedQuery.{TypedQuery}
-use Rattle.qcert.specs.declared.job.Action.TheVariants.{Compile}
+use Rattle.qc_data.specs.Outcome.{bits64}
+use Rattle.qc_io.specs.Device.{Texts, HasAsked}
 use Rattle.qcert.specs.declared.refusal.Refusal.{Refusal}
-use Rattle.qcert.specs.declared.refusal.Refusal.TheVariants as refusal
-use Rattle.qcert.specs.Job.{Job, job_of}
-use Rattle.qcert.specs.Answer.{Accepts, IsAble, IsAnswer, IsOutput}
-use Rattle.qcert.specs.Delivery.{IsDelivered}
+use Rattle.qcert.specs.declared.refusal.Refusal.TheVariants.{Usage}
+use Rattle.qcert.specs.declared.sources.Checked.{Checked}
+use Rattle.qcert.specs.Delivery.{Put, IsDelivered}
+use Rattle.qcert.specs.Jobs.{Subject, Job, job_of}
+use Rattle.qcert.specs.Reading.{checked_in, read, serve}
 use Rattle.qcert.specs.Right.{IsRight}
+use Rattle.qcert.specs.Sources.{meaning_of}
+use Rattle.qcert.specs.Steps.{Visit, HasFailed, Ended}
+use Rattle.qcert.specs.Work.{Work, Gives, IsClear}
 
--- an answer that the words may have was delivered
-pub record Ran (words : List (List ℕ)) (texts : Option Texts) (shelf_failed : Type 0)
-    (out_old out_new : Option (List ℕ)) (out_failed : Type 0) (err_old err_new : Option (List ℕ)) (err_failed : Type 0) (status : ℕ) : Type 0 where
-  pub answer : Result (List ℕ) Refusal
-  pub is_answer : IsAnswer words texts shelf_failed answer
-  pub delivered : IsDelivered answer out_old out_new out_failed err_old err_new err_failed status
+-- the words may end so: without a job nothing is asked for, and a job is served
+pub data IsEnding (words : List (List ℕ)) (shelf : Visit) (ending : Result (List ℕ) Refusal) : Type 0 where
+  no_job : job_of words ≡ None → shelf.asked_new ≡ shelf.asked_old → ending ≡ Err Usage → IsEnding words shelf ending
+  of_job : (job : Job) → job_of words ≡ Some job → Ended (serve job) shelf (HasFailed shelf) ending
+      → IsEnding words shelf ending
 
--- the words ask for a job, and what was added to the output is what its action gives
-pub record IsServed (words : List (List ℕ)) (texts : Option Texts) (out_old out_new : Option (List ℕ)) : Type 0 where
+-- an ending that the words may have was delivered
+pub record Ran (words : List (List ℕ)) (shelf : Visit) (out err : Put) (status : ℕ) : Type 0 where
+  pub ending : Result (List ℕ) Refusal
+  pub is_ending : IsEnding words shelf ending
+  pub delivered : IsDelivered ending out err status
+
+-- the shelf was asked for names that the job asks for, in order, and for no others; without a job for none
+pub data HasAskedFor (words : List (List ℕ)) (shelf : Visit) : Type 0 where
+  nothing : job_of words ≡ None → shelf.asked_new ≡ shelf.asked_old → HasAskedFor words shelf
+  its_files : (job : Job) → job_of words ≡ Some job → (names : List (List ℕ)) → (serve job).asks shelf.texts names
+      → HasAsked shelf.asked_old shelf.asked_new names → HasAskedFor words shelf
+
+-- the words ask for a job, its files were read, and what was added to the output is what its work gives
+pub record IsServed (words : List (List ℕ)) (texts : Option Texts) (out : Put) : Type 0 where
   pub job : Job
   pub is_job : job_of words ≡ Some job
+  pub work : Work
+  pub is_work : (read job).accepts texts work
   pub text : List ℕ
-  pub output : IsOutput texts job text
-  pub added : out_new ≡ append_known out_old text
+  pub given : Gives work text
+  pub added : out.new ≡ append_known out.old text
 
--- the words ask to compile
-pub record AsksCompile (words : List (List ℕ)) : Type 0 where
-  pub job : Job
-  pub is_job : job_of words ≡ Some job
-  pub compiles : job.action ≡ Compile
-
--- what was added to the output is right for a query that the texts have, in a schema that they have
-pub record IsCompiled (words : List (List ℕ)) (texts : Option Texts) (out_old out_new : Option (List ℕ)) : Type 0 where
-  pub job : Job
-  pub is_job : job_of words ≡ Some job
-  pub schema : SchemaOf
-  pub typed : TypedQuery
-  pub accepted : Accepts texts job schema typed
+-- what was added to the output is right for the subject's query, in every world of the subject's schema
+pub record IsCompiled (subject : Subject) (texts : Option Texts) (out : Put) : Type 0 where
+  pub checked : Checked
+  pub is_checked : (checked_in subject).accepts texts checked
   pub text : List ℕ
-  pub right : IsRight schema typed.query text
-  pub added : out_new ≡ append_known out_old text
+  pub right : IsRight bits64 checked.schema (meaning_of checked.query) text
+  pub added : out.new ≡ append_known out.old text
 
--- the words ask for a job whose files the texts, which are told, have, and whose action has an answer
-pub record IsServable (words : List (List ℕ)) (text_of : Texts) : Type 0 where
-  pub job : Job
-  pub is_job : job_of words ≡ Some job
-  pub schema : SchemaOf
-  pub typed : TypedQuery
-  pub accepted : Accepts (Some text_of) job schema typed
-  pub able : IsAble (Some text_of) job.action job.input schema typed
-
--- the texts are told, there is this cause to refuse, and it is not want of memory
-pub record IsDue (words : List (List ℕ)) (texts : Option Texts) (due : Refusal) : Type 0 where
+-- texts are told, the words ask for a job whose files they have, and there is no cause to refuse its work
+pub record IsServable (words : List (List ℕ)) (texts : Option Texts) : Type 0 where
   pub text_of : Texts
   pub told : texts ≡ Some text_of
-  pub cause : IsAnswer words texts ⊥ (Err due)
-  pub caused : due ≢ refusal.Memory
+  pub job : Job
+  pub is_job : job_of words ≡ Some job
+  pub work : Work
+  pub is_work : (read job).accepts (Some text_of) work
+  pub clear : IsClear work
+
+-- the words are no job, or texts are told and the job must be refused for this
+pub data IsDue (words : List (List ℕ)) (texts : Option Texts) (due : Refusal) : Type 0 where
+  no_job : job_of words ≡ None → due ≡ Usage → IsDue words texts due
+  of_job : (text_of : Texts) → texts ≡ Some text_of → (job : Job) → job_of words ≡ Some job
+      → (serve job).must (Some text_of) due → IsDue words texts due

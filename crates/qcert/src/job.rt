@@ -2,102 +2,120 @@
 ghost use Rattle.std.specs.Prelude.{◌≡◌, [], ◌∷◌, map, Option, IfSome, None, Some, ℕ, List};
 ghost use Rattle.std.specs.Option.{option_copied, option_map};
 ghost use Rattle.std.specs.Rc.{rc_str_bytes};
-ghost use Rattle.qcert.specs.Job.{job_of, action_of, names_query, with_files, with_input, job_seen};
+ghost use Rattle.qcert.specs.Jobs.{job_of, source_of, are_options, with_schema, job_on, alone, with_input};
+ghost use Rattle.qcert.specs.Jobs.{subject_seen, job_seen};
 
+use crate::sources::Source;
 use std::rc::RcStr;
 
-/// What is done with a query.
-#[derive(Clone, Copy, Debug, PartialEq, Eq)]
-pub enum Action {
-    /// Its type is told.
-    Check,
-    /// It becomes a JavaScript program.
-    Compile,
-    /// It is answered on an input.
-    Run,
+/// The query in the file of this name, and the file of its schema, if one is named.
+#[derive(Clone, Copy, Debug)]
+pub struct Subject<'a> {
+    pub source: Source,
+    pub query: &'a str,
+    pub schema: Option<&'a str>,
 }
 
-/// An action on the query in a file of this name, in the schema of a file, if one is named, and on the input of a file.
+/// An action with the files that it needs.
 #[derive(Clone, Copy, Debug)]
-pub struct Job<'a> {
-    pub action: Action,
-    pub schema: Option<&'a str>,
-    pub query: &'a str,
-    pub input: Option<&'a str>,
+pub enum Job<'a> {
+    /// The query's type is told.
+    Check(Subject<'a>),
+    /// The query becomes a JavaScript program.
+    Compile(Subject<'a>),
+    /// The query is answered on the input of a file, if one is named.
+    Run(Subject<'a>, Option<&'a str>),
 }
 
 /// What the words ask for, if they are a job.
 pub fn job_of(words: &[RcStr]) -> Option<Job<'_>>
     ensures { option_map job_seen result ≡ job_of (map rc_str_bytes words.now) }
 {
-    let [_, action, source, language, option, query, further @ ..] = words else {
+    let [_, action, first, source, second, query, further @ ..] = words else {
         return None;
     };
-    if !names_query(source.as_str(), language.as_str(), option.as_str()) {
+    if !are_options(first.as_str(), second.as_str()) {
         return None;
     }
-    with_files(action_of(action.as_str())?, query.as_str(), further)
+    let source = source_of(source.as_str())?;
+    with_schema(action.as_str(), source, query.as_str(), further)
 }
 
-// The action of a word.
-fn action_of(word: &str) -> Option<Action>
-    ensures { result ≡ action_of word.now }
+// The source of a word.
+fn source_of(word: &str) -> Option<Source>
+    ensures { result ≡ source_of word.now }
 {
     match word {
-        "check" => Some(Action::Check),
-        "compile" => Some(Action::Compile),
-        "run" => Some(Action::Run),
+        "oql" => Some(Source::Oql),
         _ => None,
     }
 }
 
-// Whether the words stand before the file of a query.
-fn names_query(source: &str, language: &str, option: &str) -> bool
-    ensures { result ≡ names_query source.now language.now option.now }
+// Whether the words are the two options before a query's file.
+fn are_options(first: &str, second: &str) -> bool
+    ensures { result ≡ are_options first.now second.now }
 {
-    source == "--source" && language == "oql" && option == "--query"
+    first == "--source" && second == "--query"
 }
 
-// The job of the words after the query's file: a schema's file, or none, and what follows.
-fn with_files<'a>(action: Action, query: &'a str, words: &'a [RcStr]) -> Option<Job<'a>>
-    ensures { option_map job_seen result ≡ with_files action query.now (map rc_str_bytes words.now) }
-{
-    match words {
-        [option, schema, further @ ..] => {
-            if option.as_str() == "--schema" {
-                with_input(action, Some(schema.as_str()), query, further)
-            } else {
-                with_input(action, None, query, words)
-            }
-        }
-        _ => with_input(action, None, query, words),
-    }
-}
-
-// The job of the words after the schema's file: an input's file, or none.
-fn with_input<'a>(
-    action: Action,
-    schema: Option<&'a str>,
+// The job of an action's word, and of the words after the query's file: a schema's file, or none, and others.
+fn with_schema<'a>(
+    action: &str,
+    source: Source,
     query: &'a str,
     words: &'a [RcStr],
 ) -> Option<Job<'a>>
-    ensures { option_map job_seen result ≡ with_input action (option_copied schema.entry) query.now (map rc_str_bytes words.now) }
+    ensures { option_map job_seen result ≡ with_schema action.now source query.now (map rc_str_bytes words.now) }
+{
+    let bare = Subject {
+        source,
+        query,
+        schema: None,
+    };
+    match words {
+        [option, schema, further @ ..] => {
+            if option.as_str() == "--schema" {
+                let schema = Some(schema.as_str());
+                job_on(action, Subject { source, query, schema }, further)
+            } else {
+                job_on(action, bare, words)
+            }
+        }
+        _ => job_on(action, bare, words),
+    }
+}
+
+// The job of an action's word, and of the words after the subject.
+fn job_on<'a>(action: &str, subject: Subject<'a>, words: &'a [RcStr]) -> Option<Job<'a>>
+    ensures { option_map job_seen result ≡ job_on action.now (subject_seen subject.entry) (map rc_str_bytes words.now) }
+{
+    match action {
+        "check" => alone(Job::Check(subject), words),
+        "compile" => alone(Job::Compile(subject), words),
+        "run" => with_input(subject, words),
+        _ => None,
+    }
+}
+
+// The job, where no words follow.
+fn alone<'a>(job: Job<'a>, words: &[RcStr]) -> Option<Job<'a>>
+    ensures { option_map job_seen result ≡ alone (job_seen job.entry) (map rc_str_bytes words.now) }
 {
     match words {
-        [] => Some(Job {
-            action,
-            schema,
-            query,
-            input: None,
-        }),
+        [] => Some(job),
+        _ => None,
+    }
+}
+
+// A run without an input's file or with one, by the words that follow.
+fn with_input<'a>(subject: Subject<'a>, words: &'a [RcStr]) -> Option<Job<'a>>
+    ensures { option_map job_seen result ≡ with_input (subject_seen subject.entry) (map rc_str_bytes words.now) }
+{
+    match words {
+        [] => Some(Job::Run(subject, None)),
         [option, input] => {
-            if action == Action::Run && option.as_str() == "--input" {
-                Some(Job {
-                    action,
-                    schema,
-                    query,
-                    input: Some(input.as_str()),
-                })
+            if option.as_str() == "--input" {
+                Some(Job::Run(subject, Some(input.as_str())))
             } else {
                 None
             }

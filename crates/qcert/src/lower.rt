@@ -1,16 +1,27 @@
 // From a query's tree to the tree of its program.
 ghost use Rattle.std.specs.Prelude.{◌≡◌, IfOk, map, option_map};
 ghost use Rattle.qc_js.specs.declared.tree.Expr.TheVariants.{Array};
-ghost use Rattle.qcert.specs.Lowering.{all_there, called_one, called_two, call_one, call_two, lowered, lowered_query};
+ghost use Rattle.qcert.specs.Lowering.{all_there, called_one, called_two, call_one, call_two};
+ghost use Rattle.qcert.specs.Lowering.{lowered, lowered_body, lowered_query};
 
+use crate::sources::Query;
 use qc_data::{List, Memory};
 use qc_js::{Expr, Function};
-use qc_oql_tree::{Binary, Oql, Query, Unary};
+use qc_oql_tree::{Binary, Oql, Unary};
 use std::alloc::Global;
 
 /// The expression that answers as the query does, if the query is compiled.
 pub fn lower_query(alloc: Global, query: &Query) -> Result<Option<Expr>, Memory>
     ensures { IfOk result (λ expression. expression ≡ lowered_query query.now) }
+{
+    match query {
+        Query::Oql(typed) => lower_body(alloc, &typed.query),
+    }
+}
+
+// The expression that a query without definitions becomes.
+fn lower_body(alloc: Global, query: &qc_oql_tree::Query) -> Result<Option<Expr>, Memory>
+    ensures { IfOk result (λ expression. expression ≡ lowered_body query.now.defines query.now.body) }
 {
     if query.defines.len() > 0 {
         return Ok(None);

@@ -1,116 +1,130 @@
-// The files that a job reads: its schema, its query and its input. A refusal has its cause, also where it is told of counts of
-// faults from before an earlier stage.
-ghost use Rattle.std.specs.Prelude.{◌≤◌, ◌≡◌, ℕ, Some, IfOk, MatchResult};
+// The files that a job reads: its schema, its query and its input.
+ghost use Rattle.std.specs.Prelude.{◌≤◌, ◌≡◌, length, IfOk};
 ghost use Rattle.std.specs.Option.{option_copied};
-ghost use Rattle.qc_io.specs.Device.{Rose, IsText};
-ghost use Rattle.qc_oql_tree.specs.Soundness.{IsSound};
+ghost use Rattle.std.specs.Result.{result_map_both};
+ghost use Rattle.qc_schema.specs.SchemaFile.{MeansSchema};
 ghost use Rattle.qcert.specs.declared.refusal.File.TheVariants as file;
-ghost use Rattle.qcert.specs.Files.{most_of, RefusesFetch, RefusesFile};
-ghost use Rattle.qcert.specs.Right.{world_in};
-ghost use Rattle.qcert.specs.Stages.{AcceptsSchema, IsBadSchema, RefusesSchema, AcceptsQuery, RefusesQuery, AcceptsInput, IsBadInput, RefusesInput};
+ghost use Rattle.qcert.specs.Files.{fetch, most_of, read_as};
+ghost use Rattle.qcert.specs.Jobs.{subject_seen};
+ghost use Rattle.qcert.specs.Reading.{IsBadSchema, schema_of, query_in, checked_in, IsInput, IsBadInput, input_of};
+ghost use Rattle.qcert.specs.Steps.{visit};
+ghost use Rattle.qcert.specs.inner.Promises.{HasItsType, Stage};
 
-use crate::job::Job;
+use crate::job::Subject;
+use crate::reading::{input_in, query_in, schema_in};
 use crate::refusal::{File, Refusal};
+use crate::sources::{Checked, Query, Source};
 use qc_io::{FetchFault, Shelf};
-use qc_oql::{TypedQuery, read};
-use qc_schema::{read_input, read_schema};
 use qc_types::{Schema, World};
 use std::alloc::Global;
 
-/// The job's schema: without a file, the one that has no classes and no globals.
-pub fn schema_stage<S: Shelf>(
+/// The subject's schema, and its query in it.
+pub fn checked_in<S: Shelf>(
     alloc: Global,
     shelf: &mut S,
-    job: &Job<'_>,
-) -> Result<Schema, Refusal>
-    ensures got { (before : ℕ) → before ≤ S.faults shelf.old → MatchResult result
-        (AcceptsSchema (S.texts shelf.old) (option_copied job.now.schema))
-        (RefusesSchema (S.texts shelf.old) (Rose before (S.faults shelf.new)) (option_copied job.now.schema)) }
+    subject: &Subject<'_>,
+) -> Result<Checked, Refusal>
+    ensures ended { Stage (checked_in (subject_seen subject.now))
+        (visit S.texts S.faults S.asked shelf.old shelf.new) result }
+    ensures typed { IfOk result (λ checked. HasItsType checked.schema checked.query) }
     ensures same { S.texts shelf.new ≡ S.texts shelf.old }
     ensures count { S.faults shelf.old ≤ S.faults shelf.new }
 {
-    match job.schema {
+    let schema = schema_of(alloc, shelf, subject.schema)?;
+    let query = query_file(alloc, shelf, subject.source, &schema, subject.query)?;
+    Ok(Checked { schema, query })
+}
+
+/// The input, a world of the schema: without a file, that of `{}`.
+pub fn input_of<S: Shelf>(
+    alloc: Global,
+    shelf: &mut S,
+    schema: &Schema,
+    name: Option<&str>,
+) -> Result<World, Refusal>
+    ensures ended { Stage (input_of schema.now (option_copied name.entry))
+        (visit S.texts S.faults S.asked shelf.old shelf.new) result }
+    ensures same { S.texts shelf.new ≡ S.texts shelf.old }
+    ensures count { S.faults shelf.old ≤ S.faults shelf.new }
+{
+    match name {
+        Some(name) => input_file(alloc, shelf, schema, name),
+        None => input_in(alloc, schema, "{}".as_bytes()),
+    }
+}
+
+// The schema: without a file, the one that has no classes and no globals.
+fn schema_of<S: Shelf>(
+    alloc: Global,
+    shelf: &mut S,
+    name: Option<&str>,
+) -> Result<Schema, Refusal>
+    ensures ended { Stage (schema_of (option_copied name.entry))
+        (visit S.texts S.faults S.asked shelf.old shelf.new) result }
+    ensures same { S.texts shelf.new ≡ S.texts shelf.old }
+    ensures count { S.faults shelf.old ≤ S.faults shelf.new }
+{
+    match name {
         Some(name) => schema_file(alloc, shelf, name),
         None => Ok(Schema::empty(alloc)),
     }
 }
 
-/// The query in the file of this name, with its type in the schema.
-pub fn query_stage<S: Shelf>(
-    alloc: Global,
-    shelf: &mut S,
-    schema: &Schema,
-    name: &str,
-) -> Result<TypedQuery, Refusal>
-    ensures got { (before : ℕ) → before ≤ S.faults shelf.old → MatchResult result
-        (AcceptsQuery (S.texts shelf.old) schema.now name.now)
-        (RefusesQuery (S.texts shelf.old) (Rose before (S.faults shelf.new)) schema.now name.now) }
-    ensures sound { IfOk result (λ typed. IsSound schema.now typed.query typed.ty) }
-    ensures same { S.texts shelf.new ≡ S.texts shelf.old }
-    ensures count { S.faults shelf.old ≤ S.faults shelf.new }
-{
-    let bytes = fetch_file(alloc, shelf, File::Query, name)?;
-    Ok(read(alloc, schema, &bytes)?)
-}
-
-/// The job's input, a world of the schema: without a file, that of `{}`.
-pub fn input_stage<S: Shelf>(
-    alloc: Global,
-    shelf: &mut S,
-    schema: &Schema,
-    job: &Job<'_>,
-) -> Result<World, Refusal>
-    ensures got { (before : ℕ) → before ≤ S.faults shelf.old → MatchResult result
-        (λ world. AcceptsInput (S.texts shelf.old) schema.now (option_copied job.now.input) world.datum × (world ≡ world_in schema.now world.datum))
-        (RefusesInput (S.texts shelf.old) (Rose before (S.faults shelf.new)) schema.now (option_copied job.now.input)) }
-    ensures same { S.texts shelf.new ≡ S.texts shelf.old }
-    ensures count { S.faults shelf.old ≤ S.faults shelf.new }
-{
-    match job.input {
-        Some(name) => input_file(alloc, shelf, schema, name),
-        None => Ok(read_input(alloc, schema, "{}".as_bytes())?),
-    }
-}
-
 // The schema in the file of this name.
 fn schema_file<S: Shelf>(alloc: Global, shelf: &mut S, name: &str) -> Result<Schema, Refusal>
-    ensures got { (before : ℕ) → before ≤ S.faults shelf.old → MatchResult result
-        (AcceptsSchema (S.texts shelf.old) (Some name.now))
-        (RefusesFile (S.texts shelf.old) (Rose before (S.faults shelf.new)) file.Schema name.now IsBadSchema) }
+    ensures ended { Stage (read_as MeansSchema IsBadSchema file.Schema name.now)
+        (visit S.texts S.faults S.asked shelf.old shelf.new) result }
     ensures same { S.texts shelf.new ≡ S.texts shelf.old }
     ensures count { S.faults shelf.old ≤ S.faults shelf.new }
 {
-    let bytes = fetch_file(alloc, shelf, File::Schema, name)?;
-    Ok(read_schema(alloc, &bytes)?)
+    let bytes = fetch(alloc, shelf, File::Schema, name)?;
+    schema_in(alloc, &bytes)
 }
 
-// The world of the schema in the file of this name.
+// The query of the schema in the file of this name.
+fn query_file<S: Shelf>(
+    alloc: Global,
+    shelf: &mut S,
+    source: Source,
+    schema: &Schema,
+    name: &str,
+) -> Result<Query, Refusal>
+    ensures ended { Stage (query_in source schema.now name.now)
+        (visit S.texts S.faults S.asked shelf.old shelf.new) result }
+    ensures typed { IfOk result (HasItsType schema.now) }
+    ensures same { S.texts shelf.new ≡ S.texts shelf.old }
+    ensures count { S.faults shelf.old ≤ S.faults shelf.new }
+{
+    let bytes = fetch(alloc, shelf, File::Query, name)?;
+    query_in(alloc, source, schema, &bytes)
+}
+
+// The input in the file of this name.
 fn input_file<S: Shelf>(
     alloc: Global,
     shelf: &mut S,
     schema: &Schema,
     name: &str,
 ) -> Result<World, Refusal>
-    ensures got { (before : ℕ) → before ≤ S.faults shelf.old → MatchResult result
-        (λ world. AcceptsInput (S.texts shelf.old) schema.now (Some name.now) world.datum × (world ≡ world_in schema.now world.datum))
-        (RefusesFile (S.texts shelf.old) (Rose before (S.faults shelf.new)) file.Input name.now (IsBadInput schema.now)) }
+    ensures ended { Stage (read_as (IsInput schema.now) (IsBadInput schema.now) file.Input name.now)
+        (visit S.texts S.faults S.asked shelf.old shelf.new) result }
     ensures same { S.texts shelf.new ≡ S.texts shelf.old }
     ensures count { S.faults shelf.old ≤ S.faults shelf.new }
 {
-    let bytes = fetch_file(alloc, shelf, File::Input, name)?;
-    Ok(read_input(alloc, schema, &bytes)?)
+    let bytes = fetch(alloc, shelf, File::Input, name)?;
+    input_in(alloc, schema, &bytes)
 }
 
 // The text of the file of this name, within the file's limit.
-fn fetch_file<S: Shelf>(
+fn fetch<S: Shelf>(
     alloc: Global,
     shelf: &mut S,
     file: File,
     name: &str,
 ) -> Result<Vec<u8>, Refusal>
-    ensures got { (before : ℕ) → before ≤ S.faults shelf.old → MatchResult result
-        (λ bytes. IsText (S.texts shelf.old) name.now (most_of file) bytes.items)
-        (RefusesFetch (S.texts shelf.old) (Rose before (S.faults shelf.new)) file name.now) }
+    ensures ended { Stage (fetch file name.now) (visit S.texts S.faults S.asked shelf.old shelf.new)
+        (result_map_both (λ bytes. bytes.items) (λ refusal. refusal) result) }
+    ensures fits { IfOk result (λ bytes. length bytes.items ≤ most_of file) }
     ensures same { S.texts shelf.new ≡ S.texts shelf.old }
     ensures count { S.faults shelf.old ≤ S.faults shelf.new }
 {

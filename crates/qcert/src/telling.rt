@@ -1,8 +1,8 @@
 // The line that tells of a refusal, put piece by piece.
 ghost use Rattle.std.specs.Prelude.{◌≡◌, ◌≤◌, map};
 ghost use Rattle.qc_io.specs.Device.{Rose};
-ghost use Rattle.qcert.specs.Delivery.{file_word, Complains, IsPut};
-ghost use Rattle.qcert.specs.Pieces.{joined};
+ghost use Rattle.qcert.specs.Delivery.{file_word, put, Complains, IsPut};
+ghost use Rattle.qcert.specs.inner.Pieces.{joined};
 
 use crate::refusal::{File, Refusal};
 use itoa::Buffer;
@@ -10,7 +10,7 @@ use qc_io::{Failed, Sink};
 
 /// Puts the line that tells of the refusal, or a front of it where the sink fails.
 pub fn tell<E: Sink>(refusal: Refusal, err: &mut E)
-    ensures { Complains (E.written err.old) (E.written err.new) (Rose (E.faults err.old) (E.faults err.new)) refusal }
+    ensures { Complains (put E.written E.faults err.old err.new) refusal }
 {
     let mut buffer = Buffer::new();
     let _ = match refusal {
@@ -45,7 +45,8 @@ pub fn tell<E: Sink>(refusal: Refusal, err: &mut E)
 
 // Puts the pieces one after another, or a front of all where the sink fails.
 fn put_all<E: Sink>(pieces: &[&str], err: &mut E) -> Result<(), Failed>
-    ensures bytes { IsPut (E.written err.old) (E.written err.new) (Rose (E.faults err.old) (E.faults err.new)) (joined (map (λ piece. piece.now) pieces.now)) }
+    ensures bytes { IsPut (E.written err.old) (E.written err.new) (Rose (E.faults err.old) (E.faults err.new))
+        (joined (map (λ piece. piece.now) pieces.now)) }
     ensures count { E.faults err.old ≤ E.faults err.new }
 {
     match pieces {

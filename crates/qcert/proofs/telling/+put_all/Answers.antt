@@ -1,5 +1,5 @@
 use Rattle.std.proofs.Common.{◌≡◌, ◌++◌, inr, map, drop, sym, rules}
-use Rattle.qcert.specs.Pieces.{joined}
+use Rattle.qcert.specs.inner.Pieces.{joined}
 use Rattle.qcert.proofs.Lines.{front_of_all, put_behind, joined_first, rest_of}
 use Rattle.qcert.proofs.telling.+put_all.Goals as goal
 

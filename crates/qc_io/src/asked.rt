@@ -1,0 +1,53 @@
+// The names that a shelf in memory was asked for.
+ghost use Rattle.std.specs.Prelude.{◌≡◌, [], ◌∷◌, Some, OnOk};
+ghost use Rattle.qc_io.specs.Device.{HasAsked};
+
+use qc_data::Memory;
+use std::alloc::Global;
+use std::marker::Model;
+
+/// The names that were asked for so far, in order, until memory was wanting to note one. A clause sees the list of
+/// their bytes, or none.
+#[derive(Drop)]
+pub(crate) struct Asked {
+    names: Vec<String>,
+    is_whole: bool,
+}
+
+impl Model for Asked {
+    ghost use Rattle.std.specs.Prelude.{List, ℕ, Option, Some, None, map, if◌then◌else◌};
+    ghost use Rattle.std.specs.String.{string_bytes};
+
+    ghost Value = { Option (List (List ℕ)) };
+
+    ghost view = { λ asked. if asked.is_whole then Some (map string_bytes asked.names.items) else None };
+}
+
+impl Asked {
+    /// No name so far.
+    pub(crate) fn new(alloc: Global) -> Asked
+        ensures { result ≡ Some [] }
+    {
+        Asked {
+            names: Vec::new(alloc),
+            is_whole: true,
+        }
+    }
+
+    /// Notes a name behind the others.
+    pub(crate) fn note(&mut self, alloc: Global, name: &str)
+        ensures { HasAsked self.old self.new (name.now ∷ []) }
+    {
+        if self.add(alloc, name).is_err() {
+            self.is_whole = false;
+        }
+    }
+
+    fn add(&mut self, alloc: Global, name: &str) -> Result<(), Memory>
+        ensures { OnOk result (HasAsked self.old self.new (name.now ∷ [])) }
+    {
+        let name = String::from_str(alloc, name)?;
+        self.names.push(name)?;
+        Ok(())
+    }
+}

@@ -1,0 +1,79 @@
+-- The files of a job, read in order: its schema, its query and its input.
+use Rattle.std.specs.Prelude.{◌≡◌, ◌≢◌, ℕ, List, [], Option, Some, None, codes}
+use Rattle.qc_data.specs.declared.data.Datum.{Datum}
+use Rattle.qc_types.specs.Schemas.{SchemaOf, WorldOf}
+use Rattle.qc_schema.specs.Inputs.{MeansWorld}
+use Rattle.qc_schema.specs.SchemaFile.{MeansSchema}
+use Rattle.qc_oql.specs.declared.fault.QueryFault.{QueryFault}
+use Rattle.qc_oql.specs.declared.fault.QueryFault.TheVariants as fault
+use Rattle.qcert.specs.declared.refusal.File.TheVariants as file
+use Rattle.qcert.specs.declared.refusal.Refusal.{Refusal}
+use Rattle.qcert.specs.declared.refusal.Refusal.TheVariants.{BadSchema, BadInput}
+use Rattle.qcert.specs.declared.sources.Checked.{Checked}
+use Rattle.qcert.specs.declared.sources.Query.{Query}
+use Rattle.qcert.specs.declared.sources.Source.{Source}
+use Rattle.qcert.specs.Causes.{of_query}
+use Rattle.qcert.specs.Files.{read_as}
+use Rattle.qcert.specs.Jobs.{Subject, Job, Check, Compile, Run}
+use Rattle.qcert.specs.Right.{world_in}
+use Rattle.qcert.specs.Sources.{IsQuery, IsFault}
+use Rattle.qcert.specs.Steps.{Step, firm, pure, then}
+use Rattle.qcert.specs.Work as work
+use Rattle.qcert.specs.Work.{Work, act}
+
+-- ---- the schema, from a file or without one
+
+-- the text means no schema
+abbrev pub IsBadSchema : List ℕ → Refusal → Type 0
+IsBadSchema bytes r = (r ≡ BadSchema) × ((schema : SchemaOf) → ¬ MeansSchema bytes schema)
+
+-- a job without a schema's file has the schema without classes and globals
+abbrev pub schema_of : Option (List ℕ) → Step SchemaOf
+schema_of None = pure (record { classes = []; globals = [] })
+schema_of (Some name) = read_as MeansSchema IsBadSchema file.Schema name
+
+-- ---- the query
+
+-- the text spells no query of the schema
+abbrev pub IsBadQuery : Source → SchemaOf → List ℕ → Refusal → Type 0
+IsBadQuery source schema bytes r =
+    (f : QueryFault) × (f ≢ fault.Memory) × IsFault source schema bytes f × (r ≡ of_query f)
+
+-- the query of this schema in the file of this name
+abbrev pub query_in : Source → SchemaOf → List ℕ → Step Query
+query_in source schema name = read_as (IsQuery source schema) (IsBadQuery source schema) file.Query name
+
+-- a subject's schema, and its query in it
+abbrev pub checked_in : Subject → Step Checked
+checked_in subject = then (schema_of subject.schema)
+    (λ schema. then (query_in subject.source schema subject.query)
+    (λ query. pure (record { schema = schema; query = query })))
+
+-- ---- the input, from a file or without one
+
+-- the text means this world of the schema
+pub record IsInput (schema : SchemaOf) (bytes : List ℕ) (world : WorldOf) : Type 0 where
+  pub means : MeansWorld bytes schema world.datum
+  pub is_world : world ≡ world_in schema world.datum
+
+-- the text means no world of the schema
+abbrev pub IsBadInput : SchemaOf → List ℕ → Refusal → Type 0
+IsBadInput schema bytes r = (r ≡ BadInput) × ((world : Datum) → ¬ MeansWorld bytes schema world)
+
+-- a job without an input's file has the input `{}`
+abbrev pub input_of : SchemaOf → Option (List ℕ) → Step WorldOf
+input_of schema None = firm (IsInput schema (codes "{}")) (IsBadInput schema (codes "{}"))
+input_of schema (Some name) = read_as (IsInput schema) (IsBadInput schema) file.Input name
+
+-- ---- whole jobs
+
+-- the files that a job reads, and what is to be done with them
+abbrev pub read : Job → Step Work
+read (Check subject) = then (checked_in subject) (λ checked. pure (work.Check checked))
+read (Compile subject) = then (checked_in subject) (λ checked. pure (work.Compile checked))
+read (Run subject input) = then (checked_in subject)
+    (λ checked. then (input_of checked.schema input) (λ world. pure (work.Run checked world)))
+
+-- the files of the job are read, and then the work is done
+abbrev pub serve : Job → Step (List ℕ)
+serve job = then (read job) act

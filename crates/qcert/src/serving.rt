@@ -1,0 +1,85 @@
+// How the words of a call end: with a text for the output, or with a refusal.
+ghost use Rattle.std.specs.Prelude.{◌≡◌, ◌≤◌, map};
+ghost use Rattle.std.specs.Option.{option_copied};
+ghost use Rattle.std.specs.Result.{result_map_both};
+ghost use Rattle.std.specs.Rc.{rc_str_bytes};
+ghost use Rattle.std.specs.String.{string_bytes};
+ghost use Rattle.qcert.specs.Jobs.{Check, Compile, Run, job_seen, subject_seen};
+ghost use Rattle.qcert.specs.Ran.{IsEnding};
+ghost use Rattle.qcert.specs.Reading.{serve};
+ghost use Rattle.qcert.specs.Steps.{visit};
+ghost use Rattle.qcert.specs.inner.Promises.{Stage};
+
+use crate::actions::{answer_line, program_text, type_line};
+use crate::job::{Job, Subject, job_of};
+use crate::refusal::Refusal;
+use crate::stages::{checked_in, input_of};
+use qc_io::Shelf;
+use std::alloc::Global;
+use std::rc::RcStr;
+
+/// The text that the words give, or why there is none. No output is touched.
+pub fn ending<S: Shelf>(alloc: Global, words: &[RcStr], shelf: &mut S) -> Result<String, Refusal>
+    ensures ending { IsEnding (map rc_str_bytes words.now) (visit S.texts S.faults S.asked shelf.old shelf.new)
+        (result_map_both string_bytes (λ r. r) result) }
+    ensures same { S.texts shelf.new ≡ S.texts shelf.old }
+{
+    match job_of(words) {
+        Some(job) => serve(alloc, shelf, &job),
+        None => Err(Refusal::Usage),
+    }
+}
+
+// The text that a job gives.
+fn serve<S: Shelf>(alloc: Global, shelf: &mut S, job: &Job<'_>) -> Result<String, Refusal>
+    ensures ended { Stage (serve (job_seen job.now)) (visit S.texts S.faults S.asked shelf.old shelf.new)
+        (result_map_both string_bytes (λ r. r) result) }
+    ensures same { S.texts shelf.new ≡ S.texts shelf.old }
+{
+    match job {
+        Job::Check(subject) => check(alloc, shelf, subject),
+        Job::Compile(subject) => compile(alloc, shelf, subject),
+        Job::Run(subject, input) => run_query(alloc, shelf, subject, *input),
+    }
+}
+
+fn check<S: Shelf>(
+    alloc: Global,
+    shelf: &mut S,
+    subject: &Subject<'_>,
+) -> Result<String, Refusal>
+    ensures ended { Stage (serve (Check (subject_seen subject.now)))
+        (visit S.texts S.faults S.asked shelf.old shelf.new) (result_map_both string_bytes (λ r. r) result) }
+    ensures same { S.texts shelf.new ≡ S.texts shelf.old }
+{
+    let checked = checked_in(alloc, shelf, subject)?;
+    type_line(alloc, &checked)
+}
+
+fn compile<S: Shelf>(
+    alloc: Global,
+    shelf: &mut S,
+    subject: &Subject<'_>,
+) -> Result<String, Refusal>
+    ensures ended { Stage (serve (Compile (subject_seen subject.now)))
+        (visit S.texts S.faults S.asked shelf.old shelf.new) (result_map_both string_bytes (λ r. r) result) }
+    ensures same { S.texts shelf.new ≡ S.texts shelf.old }
+{
+    let checked = checked_in(alloc, shelf, subject)?;
+    program_text(alloc, &checked)
+}
+
+fn run_query<S: Shelf>(
+    alloc: Global,
+    shelf: &mut S,
+    subject: &Subject<'_>,
+    input: Option<&str>,
+) -> Result<String, Refusal>
+    ensures ended { Stage (serve (Run (subject_seen subject.now) (option_copied input.entry)))
+        (visit S.texts S.faults S.asked shelf.old shelf.new) (result_map_both string_bytes (λ r. r) result) }
+    ensures same { S.texts shelf.new ≡ S.texts shelf.old }
+{
+    let checked = checked_in(alloc, shelf, subject)?;
+    let world = input_of(alloc, shelf, &checked.schema, input)?;
+    answer_line(alloc, &checked, &world)
+}
