@@ -7,6 +7,7 @@ pub mod making;
 pub mod operators;
 mod pairing;
 mod tree;
+mod words;
 
 pub use lexeme::Lexeme;
 pub use pairing::{Pairing, branding, division, on_one, pairing_of};
