@@ -1,110 +1,65 @@
--- How lists of tokens begin, and what a word of a sequence goes on with.
-use Rattle.std.proofs.Common.{◌≡◌, ◌<◌, ◌≤◌, ◌+◌, ◌⊎◌, length, arith, ℕ, suc, Bool, true, false, if◌then◌else◌, List, [], ◌∷◌, ◌++◌, refl, ap, subst, length-append, inl, inr}
-use Rattle.qc_grammar.specs.declared.placed.Placed.{Placed}
-use Rattle.qc_grammar.specs.Tokens.{Tokens, numbered, member, Of}
-use Rattle.qc_grammar.specs.Parsers.{Answer, is_deep}
-use Rattle.qc_grammar.proofs.Exactness.{Info, Stops, Agrees, Begins}
-use Rattle.qc_grammar.proofs.Sets.{disjoint, apart, joined, within, member_left, member_right, in_wider, not_true}
+-- What may come next behind a stack of symbols.
+use Rattle.std.proofs.Common.{◌≡◌, ◌<◌, ℕ, suc, true, ltb, List, [], ◌∷◌, ◌++◌, length, refl, Some}
+use Rattle.std.proofs.lemmas.Bool.{ltb-true}
+use Rattle.qc_grammar.specs.declared.symbol.Symbol.{Symbol}
+use Rattle.qc_grammar.specs.declared.symbol.Symbol.TheVariants.{Token, Rule, Action}
+use Rattle.qc_grammar.specs.declared.symbol.Event.{Event}
+use Rattle.qc_grammar.specs.inner.Derivations.{Rules, Produces, Derives, nothing, token, action, rule}
+use Rattle.qc_grammar.specs.inner.Certificate.{Notes, follow_of, turn, within, begins, follows, is_exact}
+use Rattle.qc_grammar.specs.inner.Machine.{Choices, choices_of, next, choose, member}
+use Rattle.qc_grammar.proofs.Sets.{both, in_within, in_leads, in_all_choices, in_one}
+use Rattle.qc_grammar.proofs.Facts.{good_production, choice}
 
--- begins as the first part; goes on as the second, and as the first too where the second may have no token
-abbrev pub sequence_info : Info → Info → Info
-sequence_info i j = record { empty = false; first = i.first; more = joined j.empty j.more i.more }
+-- it is in the set
+abbrev pub Has : List ℕ → ℕ → Type 0
+Has s k = member k s ≡ true
 
--- a language that has not the word of no token
-abbrev pub nonempty : List ℕ → List ℕ → Info
-nonempty begin more = record { empty = false; first = begin; more = more }
+module _ (g : Rules) (o : Choices) (c : Notes) where
+  -- it may come next behind the stack
+  abbrev pub Comes : List Symbol → ℕ → Type 0
+  Comes σ k = Has (begins o σ (0 ∷ [])) k
 
-module _ {T : Type 0} where
-  -- what begins with none of more kinds begins with none of these
-  pub stops_left : (xs ys : List ℕ) (v : Tokens T) → Stops (xs ++ ys) v → Stops xs v
-  stops_left xs ys [] s = refl
-  stops_left xs ys (t ∷ v) s = member_left xs ys t.kind s
+  -- what may come behind each rule of the stack is all_choices to follow it
+  abbrev pub Fits : List Symbol → Type 0
+  Fits [] = Unit {0}
+  Fits (Token k ∷ σ) = Fits σ
+  Fits (Rule n ∷ σ) = (n < length g) × ((k : ℕ) → Comes σ k → Has (follow_of c n) k) × Fits σ
+  Fits (Action a ∷ σ) = Fits σ
 
-  -- the same on the right
-  pub stops_right : (xs ys : List ℕ) (v : Tokens T) → Stops (xs ++ ys) v → Stops ys v
-  stops_right xs ys [] s = refl
-  stops_right xs ys (t ∷ v) s = member_right xs ys t.kind s
+  pub ahead : (β σ : List Symbol) (f : List ℕ) (k : ℕ) → ((j : ℕ) → Comes σ j → Has f j) → Comes (β ++ σ) k → Has (begins o β f) k
+  ahead [] σ f k m h = m k h
+  ahead (Token j ∷ β) σ f k m h = h
+  ahead (Rule n ∷ β) σ f k m h = h
+  ahead (Action a ∷ β) σ f k m h = ahead β σ f k m h
 
-  -- what ends a sequence ends its second part
-  pub joined_last : (e : Bool) (xs ys : List ℕ) (v : Tokens T) → Stops (joined e xs ys) v → Stops xs v
-  joined_last true xs ys v s = stops_left xs ys v s
-  joined_last false xs ys v s = s
+  pub fits_append : (β σ : List Symbol) (f : List ℕ) → follows g o c f β ≡ true → ((j : ℕ) → Comes σ j → Has f j) → Fits σ → Fits (β ++ σ)
+  fits_append [] σ f h m fits = fits
+  fits_append (Token j ∷ β) σ f h m fits = fits_append β σ f h m fits
+  fits_append (Action a ∷ β) σ f h m fits = fits_append β σ f h m fits
+  fits_append (Rule n ∷ β) σ f h m fits =
+      let a = both (ltb n (length g)) _ h in
+      let b = both (within (begins o β f) (follow_of c n)) (follows g o c f β) a.1 in
+      (ltb-true _ _ a.0, λ k w. in_within (begins o β f) (follow_of c n) k b.0 (ahead β σ f k m w), fits_append β σ f b.1 m fits)
 
-  -- where the second part and what ends the sequence follow, the first part does not go on
-  pub follows : (i j : Info) (u v : Tokens T) → disjoint j.first i.more ≡ true → Begins j u → Stops (joined j.empty j.more i.more) v → Stops i.more (u ++ v)
-  follows i j [] v d b s =
-      let s' : Stops (joined true j.more i.more) v = subst (λ e. Stops (joined e j.more i.more) v) b s in
-      stops_right j.more i.more v s'
-  follows i j (t ∷ u) v d b s = apart j.first i.more t.kind d b
+  -- at what may come next behind the production, the row tells it
+  pub turned : is_exact g o c ≡ true → (n k : ℕ) (σ body : List Symbol) (P : Produces g n body) → Fits (Rule n ∷ σ) → Comes (body ++ σ) k → turn (choices_of o n) k ≡ suc P.number
+  turned ex n k σ body P fits h =
+      let G = good_production g o c ex n fits.0 body P in
+      in_leads (begins o body (follow_of c n)) P.number (choices_of o n) k G.leads (ahead body σ (follow_of c n) k fits.1 h)
 
-  -- the same next token stays the same with more before it
-  pub agrees_after : (u r r' : Tokens T) → Agrees r r' → Agrees (u ++ r) (u ++ r')
-  agrees_after [] r r' a = a
-  agrees_after (t ∷ u) r r' a = (u ++ r', refl)
+  pub fits_body : is_exact g o c ≡ true → (n : ℕ) (σ body : List Symbol) (P : Produces g n body) → Fits (Rule n ∷ σ) → Fits (body ++ σ)
+  fits_body ex n σ body P fits = fits_append body σ (follow_of c n) (good_production g o c ex n fits.0 body P).follows fits.1 fits.2
 
-  -- what is left is no longer
-  pub shorter : (ts u v : Tokens T) → ts ≡ u ++ v → length v ≤ length ts
-  shorter ts u v e = omega (arith, length-append u v, ap length e)
+  -- what the stack spells begins by what may come next
+  pub comes : is_exact g o c ≡ true → (i : ℕ) (σ : List Symbol) (ks : List ℕ) (es : List Event) → Derives g i σ ks es → Fits σ → Comes σ (next ks)
+  comes ex i σ ks es nothing fits = refl
+  comes ex i σ ks es (token {k = k} d) fits = in_one (suc k)
+  comes ex i σ ks es (action {σ = τ} {es = fs} d) fits = comes ex i τ ks fs d fits
+  comes ex i σ ks es (rule {n = n} {σ = τ} {body = body} P d) fits =
+      in_all_choices (choices_of o n) (next ks) P.number (turned ex n (next ks) τ body P fits (comes ex i (body ++ τ) ks es d (fits_body ex n τ body P fits)))
 
-  -- a sequence begins as its first part does
-  pub begins_on : (i j : Info) (u v : Tokens T) → i.empty ≡ false → Begins i u → Begins (sequence_info i j) (u ++ v)
-  begins_on i j [] v e b = cc
-  begins_on i j (t ∷ u) v e b = b
-
-  -- The first part takes a token, so what follows has one fewer.
-  pub fewer : (i : Info) (ts u v : Tokens T) → i.empty ≡ false → Begins i u → ts ≡ u ++ v → length v < length ts
-  fewer i ts [] v n b e = let b' : i.empty ≡ true = b in cc
-  fewer i ts (t ∷ u) v n b e = omega (arith, length-append (t ∷ u) v, ap length e)
-
-  -- two lists that agree after the same tokens begin with the same token
-  pub heads : (u r r' : Tokens T) → Agrees r r' → (t : Placed T) (ts : Tokens T) → t ∷ ts ≡ u ++ r → (rest : Tokens T) × (u ++ r' ≡ t ∷ rest)
-  heads [] [] r' a t ts e = cc
-  heads [] (t' ∷ r) r' a t ts e = let same : t ≡ t' = cc in (a.0, rw same a.1)
-  heads (t' ∷ u) r r' a t ts e = let same : t ≡ t' = cc in (u ++ r', rw same refl)
-
-  -- two lists that agree after no tokens are both at their end
-  pub no_heads : (u r r' : Tokens T) → Agrees r r' → [] ≡ u ++ r → u ++ r' ≡ []
-  no_heads [] [] r' a e = a
-  no_heads [] (t' ∷ r) r' a e = cc
-  no_heads (t' ∷ u) r r' a e = cc
-
-  -- where a word and what follows it begin with a token, the word has none or begins with it
-  pub word_at : (i : Info) (u v rest : Tokens T) (t : Placed T) → Begins i u → u ++ v ≡ t ∷ rest → ((i.empty ≡ true) × (v ≡ t ∷ rest)) ⊎ (member t.kind i.first ≡ true)
-  word_at i [] v rest t b e = inl (b, e)
-  word_at i (t' ∷ u) v rest t b e = let same : t' ≡ t = cc in inr (subst (λ z. member z.kind i.first ≡ true) same b)
-
-  -- a word of a language that has not the word of no token takes a token
-  pub no_word : (i : Info) (u v : Tokens T) → i.empty ≡ false → Begins i u → u ++ v ≡ [] → ⊥
-  no_word i [] v n b e = let b' : i.empty ≡ true = b in cc
-  no_word i (t ∷ u) v n b e = cc
-
-  -- what begins with none of more kinds, by inclusion
-  pub out_wider : (xs ys : List ℕ) (v : Tokens T) → within xs ys ≡ true → Stops ys v → Stops xs v
-  out_wider xs ys [] w s = refl
-  out_wider xs ys (t ∷ v) w s = not_true (member t.kind xs) (λ h. let h' = in_wider xs ys t.kind w h in cc)
-
-  -- a word that begins with a token of these kinds
-  pub begun : (ks : List ℕ) (i : Info) (t : Placed T) → within ks i.first ≡ true → Of ks t → member t.kind i.first ≡ true
-  begun ks i t w h = in_wider ks i.first t.kind w h.is
-
-  -- a word with more behind it
-  pub longer : (i : Info) (u v : Tokens T) → i.empty ≡ false → Begins i u → Begins i (u ++ v)
-  longer i [] v n b = let b' : i.empty ≡ true = b in cc
-  longer i (t ∷ u) v n b = b
-
-  -- a word of a language that may begin with more kinds
-  pub wider : (i j : Info) (u : Tokens T) → i.empty ≡ j.empty → within i.first j.first ≡ true → Begins i u → Begins j u
-  wider i j [] n w b = let b' : i.empty ≡ true = b in cc
-  wider i j (t ∷ u) n w b = in_wider i.first j.first t.kind w b
-
-  -- the tokens behind are numbered on
-  pub numbered_append : (class : T → ℕ) (n : ℕ) (ts us : List T) → numbered class n (ts ++ us) ≡ numbered class n ts ++ numbered class (n + length ts) us
-  numbered_append class n [] us = let e : n ≡ n + length {A = T} [] = omega arith in ap (λ k. numbered class k us) e
-  numbered_append class n (t ∷ ts) us =
-      let e : suc n + length ts ≡ n + length (t ∷ ts) = omega arith in
-      ap (λ z. record { at = n; kind = class t; token = t } ∷ z) (subst (λ k. numbered class (suc n) (ts ++ us) ≡ numbered class (suc n) ts ++ numbered class k us) e (numbered_append class (suc n) ts us))
-
-  -- a choice is not too deep where neither part is
-  pub choose_ends : {A : Type 0} (b : Bool) (o o' : Answer T A) → is_deep o ≡ false → is_deep o' ≡ false → is_deep (if b then o else o') ≡ false
-  choose_ends true o o' d d' = d
-  choose_ends false o o' d d' = d'
+  -- what a stack with a rule on top spells, the chosen production spells
+  pub forced : is_exact g o c ≡ true → (i n : ℕ) (σ : List Symbol) (ks : List ℕ) (es : List Event) → Derives g i (Rule n ∷ σ) ks es → Fits (Rule n ∷ σ)
+      → (body : List Symbol) × (choose g o n (next ks) ≡ Some body) × Derives g i (body ++ σ) ks es
+  forced ex i n σ ks es (rule {body = body} P d) fits =
+      (body, choice g o c n (next ks) body P (turned ex n (next ks) σ body P fits (comes ex i (body ++ σ) ks es d (fits_body ex n σ body P fits))), d)

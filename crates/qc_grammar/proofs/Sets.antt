@@ -1,98 +1,72 @@
--- Sets of kinds.
-use Rattle.std.proofs.Common.{◌≡◌, ℕ, Bool, true, false, ◌&&◌, ◌||◌, not, eqb, List, [], ◌∷◌, ◌++◌, refl, ◌⊎◌, inl, inr}
-use Rattle.std.proofs.lemmas.Bool.{eqb-true}
-use Rattle.qc_grammar.specs.Tokens.{member}
+-- Sets of what may come next.
+use Rattle.std.proofs.Common.{◌≡◌, ℕ, zero, suc, Bool, true, false, ◌&&◌, ◌||◌, eqb, List, [], ◌∷◌, ◌++◌, refl, sym, ap, ◌∙◌, ◌⊎◌, inl, inr, arith}
+use Rattle.std.specs.Prelude.{if◌then◌else◌}
+use Rattle.std.proofs.lemmas.Bool.{eqb-true, eq-eqb}
+use Rattle.qc_grammar.specs.inner.Certificate.{all_choices, bump, turn, within, leads}
+use Rattle.qc_grammar.specs.inner.Machine.{member, place}
 
--- no kind is in both
-abbrev pub disjoint : List ℕ → List ℕ → Bool
-disjoint [] ys = true
-disjoint (x ∷ xs) ys = not (member x ys) && disjoint xs ys
-
--- both of a conjunction whose first is denied
-pub split_and : (a b : Bool) → (not a && b) ≡ true → (a ≡ false) × (b ≡ true)
-split_and true b h = cc
-split_and false b h = (refl, h)
+-- both of a conjunction
+pub both : (a b : Bool) → (a && b) ≡ true → (a ≡ true) × (b ≡ true)
+both true b h = (refl, h)
+both false b h = cc
 
 -- one of a disjunction
-pub or_cases : (a b : Bool) → (a || b) ≡ true → (a ≡ true) ⊎ (b ≡ true)
-or_cases true b h = inl refl
-or_cases false b h = inr h
+either : (a b : Bool) → (a || b) ≡ true → (a ≡ true) ⊎ (b ≡ true)
+either true b h = inl refl
+either false b h = inr h
 
--- neither of a disjunction
-pub or_false : (a b : Bool) → (a || b) ≡ false → (a ≡ false) × (b ≡ false)
-or_false true b h = cc
-or_false false b h = (refl, h)
-
--- a kind of the first set is none of the second
-pub apart : (xs ys : List ℕ) (k : ℕ) → disjoint xs ys ≡ true → member k xs ≡ true → member k ys ≡ false
-apart [] ys k d m = cc
-apart (x ∷ xs) ys k d m =
-    let both = split_and (member x ys) (disjoint xs ys) d in
-    elim (or_cases (eqb k x) (member k xs) m) [
-      | inl e ↦ rw (eqb-true k x e) both.0
-      | inr e ↦ apart xs ys k both.1 e
-    ]
-
--- a kind that is in neither is not in the first
-pub member_left : (xs ys : List ℕ) (k : ℕ) → member k (xs ++ ys) ≡ false → member k xs ≡ false
-member_left [] ys k m = refl
-member_left (x ∷ xs) ys k m =
-    let both = or_false (eqb k x) (member k (xs ++ ys)) m in
-    rw (both.0) (member_left xs ys k both.1)
-
--- nor in the second
-pub member_right : (xs ys : List ℕ) (k : ℕ) → member k (xs ++ ys) ≡ false → member k ys ≡ false
-member_right [] ys k m = m
-member_right (x ∷ xs) ys k m = member_right xs ys k (or_false (eqb k x) (member k (xs ++ ys)) m).1
-
--- a kind of the first is in both together
-pub in_left : (xs ys : List ℕ) (k : ℕ) → member k xs ≡ true → member k (xs ++ ys) ≡ true
+in_left : (xs ys : List ℕ) (k : ℕ) → member k xs ≡ true → member k (xs ++ ys) ≡ true
 in_left [] ys k m = cc
 in_left (x ∷ xs) ys k m =
-    elim (or_cases (eqb k x) (member k xs) m) [
+    elim (either (eqb k x) (member k xs) m) [
       | inl e ↦ rw e refl
       | inr e ↦ elim (eqb k x) as (λ b. (b || member k (xs ++ ys)) ≡ true) [ true ↦ refl | false ↦ in_left xs ys k e ]
     ]
 
--- and so is one of the second
-pub in_right : (xs ys : List ℕ) (k : ℕ) → member k ys ≡ true → member k (xs ++ ys) ≡ true
+in_right : (xs ys : List ℕ) (k : ℕ) → member k ys ≡ true → member k (xs ++ ys) ≡ true
 in_right [] ys k m = m
 in_right (x ∷ xs) ys k m =
     elim (eqb k x) as (λ b. (b || member k (xs ++ ys)) ≡ true) [ true ↦ refl | false ↦ in_right xs ys k m ]
 
--- how a word of the first, which spells nothing never, and a word of the second go on
-abbrev pub joined : Bool → List ℕ → List ℕ → List ℕ
-joined true ends begins = ends ++ begins
-joined false ends begins = ends
+-- a member of the first set is in the second
+pub in_within : (s t : List ℕ) (k : ℕ) → within s t ≡ true → member k s ≡ true → member k t ≡ true
+in_within [] t k w h = cc
+in_within (x ∷ s) t k w h =
+    let b = both (member x t) (within s t) w in
+    elim (either (eqb k x) (member k s) h) [ inl e ↦ rw (eqb-true k x e) b.0 | inr e ↦ in_within s t k b.1 e ]
 
--- a disjunction by its first
-pub or_yes : (a b : Bool) → a ≡ true → (a || b) ≡ true
-or_yes true b h = refl
-or_yes false b h = cc
+-- on a member of the set this alternative is chosen
+pub in_leads : (s : List ℕ) (p : ℕ) (os : List (List ℕ)) (k : ℕ) → leads s p os ≡ true → member k s ≡ true → turn os k ≡ suc p
+in_leads [] p os k w h = cc
+in_leads (x ∷ s) p os k w h =
+    let b = both (eqb (turn os x) (suc p)) (leads s p os) w in
+    elim (either (eqb k x) (member k s) h) [ inl e ↦ rw (eqb-true k x e) (eqb-true (turn os x) (suc p) b.0) | inr e ↦ in_leads s p os k b.1 e ]
 
--- these kinds, if so, and otherwise none
-abbrev pub if_empty : Bool → List ℕ → List ℕ
-if_empty true ks = ks
-if_empty false ks = []
+pub in_one : (k : ℕ) → member k (k ∷ []) ≡ true
+in_one k = rw (eq-eqb k k refl) refl
 
--- each kind of the first is in the second
-abbrev pub within : List ℕ → List ℕ → Bool
-within [] ys = true
-within (x ∷ xs) ys = member x ys && within xs ys
+bumped : (t p : ℕ) → bump t ≡ suc p → (q : ℕ) × (t ≡ suc q) × (p ≡ suc q)
+bumped zero p h = cc
+bumped (suc t) p h = (t, refl, cc)
 
--- both of a conjunction
-pub both_and : (a b : Bool) → (a && b) ≡ true → (a ≡ true) × (b ≡ true)
-both_and true b h = (refl, h)
-both_and false b h = cc
+-- the alternative of this turn is in this place
+pub in_place : (os : List (List ℕ)) (k p : ℕ) → turn os k ≡ suc p → place os k ≡ p
+in_place [] k p h = cc
+in_place (o ∷ os) k p h =
+    elim (member k o) as (λ t. (if t then 1 else bump (turn os k)) ≡ suc p → (if t then 0 else suc (place os k)) ≡ p) [
+      | true ↦ λ z. omega arith
+      | false ↦ λ z. (let r = bumped (turn os k) p z in ap (λ n. suc n) (in_place os k r.0 r.1) ∙ sym r.2)
+    ] h
 
--- a kind of the first is in the second
-pub in_wider : (xs ys : List ℕ) (k : ℕ) → within xs ys ≡ true → member k xs ≡ true → member k ys ≡ true
-in_wider [] ys k w m = cc
-in_wider (x ∷ xs) ys k w m =
-    let both = both_and (member x ys) (within xs ys) w in
-    elim (or_cases (eqb k x) (member k xs) m) [ inl e ↦ rw (eqb-true k x e) both.0 | inr e ↦ in_wider xs ys k both.1 e ]
+-- and the rule begins on it
+pub in_all_choices : (os : List (List ℕ)) (k p : ℕ) → turn os k ≡ suc p → member k (all_choices os) ≡ true
+in_all_choices [] k p h = cc
+in_all_choices (o ∷ os) k p h =
+    let cases : (t : Bool) → member k o ≡ t → member k (o ++ all_choices os) ≡ true = λ t. elim t as (λ t. member k o ≡ t → member k (o ++ all_choices os) ≡ true) [
+      | true ↦ λ y. in_left o (all_choices os) k y
+      | false ↦ λ y. in_right o (all_choices os) k (let z : bump (turn os k) ≡ suc p = rw y at h in let r = bumped (turn os k) p z in in_all_choices os k r.0 r.1)
+    ] in
+    cases (member k o) refl
 
--- what is not true is false
-pub not_true : (b : Bool) → (b ≡ true → ⊥) → b ≡ false
-not_true true h = absurd (h refl)
-not_true false h = refl
+pub one_is : (k j : ℕ) → member k (j ∷ []) ≡ true → k ≡ j
+one_is k j h = elim (either (eqb k j) false h) [ inl e ↦ eqb-true k j e | inr e ↦ absurd (cc) ]

@@ -1,5 +1,2 @@
-pub mod Languages
-pub mod Parsers
 pub mod Parsing
-pub mod Reads
-pub mod Tokens
+pub mod inner

@@ -1,15 +1,14 @@
-//! Exact parsers with exact places of faults: what every grammar shares, over tokens of any type.
+//! Exact parsing: a grammar as a table that one interpreter reads, the one tree or the exact place of the fault.
 #![tactic(auto)]
 
-mod cursor;
 mod fault;
-mod parse;
-mod place;
-mod placed;
-mod stop;
+mod grammar;
+mod machine;
+mod stack;
+mod symbol;
 
-pub use cursor::Cursor;
 pub use fault::SyntaxFault;
-pub use parse::parse_whole;
-pub use placed::Placed;
-pub use stop::Stop;
+pub use grammar::Grammar;
+pub use machine::read;
+pub use stack::Stack;
+pub use symbol::{Event, Symbol};

@@ -9,7 +9,6 @@ use Rattle.qc_types.specs.declared.ty.Ty.{Ty}
 use Rattle.qc_types.specs.Schemas.{SchemaOf}
 use Rattle.qc_oql_tree.specs.declared.tree.Query.{Query}
 use Rattle.qc_oql_tree.specs.Grammar as grammar
-use Rattle.qc_oql_tree.specs.Lexemes.{kind}
 use Rattle.qc_oql_tree.specs.Typing.{query_type}
 use Rattle.qc_typing.specs.Checking.{Checks}
 use Rattle.qc_typing.specs.declared.fault.TypeFault.{TypeFault}
@@ -39,20 +38,20 @@ not_bad bytes a at s b = b.no_scan a s.scanned
 -- ---- trees
 
 -- tokens that spell a query have no fault of syntax
-not_refused : (bytes : List ℕ) (a b : List Placed) (q : Query) (at : ℕ) → IsTokens bytes a → IsTokens bytes b → Spells kind grammar.Query (lexemes a) q → Refused kind grammar.Query (lexemes b) at → ⊥
+not_refused : (bytes : List ℕ) (a b : List Placed) (q : Query) (at : ℕ) → IsTokens bytes a → IsTokens bytes b → Spells grammar.Query (lexemes a) q → Refused grammar.Query (lexemes b) at → ⊥
 not_refused bytes a b q at s t spelled refused =
     let same : lexemes a ≡ lexemes b = ap lexemes (same_words bytes a b s.scanned t.scanned) in
-    refused.none q (subst (λ ts. Spells kind grammar.Query ts q) same spelled).spells
+    refused.none q (subst (λ ts. Spells grammar.Query ts q) same spelled).spells
 
 pub same_query : (bytes : List ℕ) (p q : Query) → Reads bytes p → Reads bytes q → p ≡ q
 same_query bytes p q r s =
     let same : lexemes r.words ≡ lexemes s.words = ap lexemes (same_words bytes r.words s.words r.tokens.scanned s.tokens.scanned) in
-    s.spelled.only p (subst (λ ts. Spells kind grammar.Query ts p) same r.spelled).spells
+    s.spelled.only p (subst (λ ts. Spells grammar.Query ts p) same r.spelled).spells
 
-same_place : (bytes : List ℕ) (a b : List Placed) (i j : ℕ) → IsTokens bytes a → IsTokens bytes b → Refused kind grammar.Query (lexemes a) i → Refused kind grammar.Query (lexemes b) j → i ≡ j
+same_place : (bytes : List ℕ) (a b : List Placed) (i j : ℕ) → IsTokens bytes a → IsTokens bytes b → Refused grammar.Query (lexemes a) i → Refused grammar.Query (lexemes b) j → i ≡ j
 same_place bytes a b i j s t f g =
     let same : lexemes a ≡ lexemes b = ap lexemes (same_words bytes a b s.scanned t.scanned) in
-    one_place kind grammar.Query (lexemes b) i j (subst (λ ts. Refused kind grammar.Query ts i) same f).place g.place
+    one_place grammar.Query (lexemes b) i j (subst (λ ts. Refused grammar.Query ts i) same f).place g.place
 
 -- ---- types
 

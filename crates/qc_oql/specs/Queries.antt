@@ -8,7 +8,6 @@ use Rattle.qc_grammar.specs.Parsing.{Spells, Refused}
 use Rattle.qc_types.specs.Schemas.{SchemaOf}
 use Rattle.qc_oql_tree.specs.declared.tree.Query.{Query}
 use Rattle.qc_oql_tree.specs.Grammar as grammar
-use Rattle.qc_oql_tree.specs.Lexemes.{kind}
 use Rattle.qc_oql_tree.specs.Sizes.{query_size}
 use Rattle.qc_oql_tree.specs.Typing.{query_type}
 use Rattle.qc_oql.specs.declared.fault.QueryFault.{QueryFault}
@@ -24,7 +23,7 @@ pub record IsTokens (bytes : List ℕ) (words : List Placed) : Type 0 where
 pub record Reads (bytes : List ℕ) (query : Query) : Type 0 where
   pub words : List Placed
   pub tokens : IsTokens bytes words
-  pub spelled : Spells kind grammar.Query (lexemes words) query
+  pub spelled : Spells grammar.Query (lexemes words) query
 
 -- the query that the bytes spell has the type in the schema
 pub record IsQuery (schema : SchemaOf) (bytes : List ℕ) (typed : TypedQuery) : Type 0 where
@@ -41,7 +40,7 @@ abbrev pub IsFault : SchemaOf → List ℕ → QueryFault → Type 0
 IsFault schema bytes (BadScan at) = IsBad Oql bytes at
 IsFault schema bytes TooManyTokens = (words : List Placed) × IsScan Oql bytes words × (1000 < length words)
 IsFault schema bytes (BadSyntax at) =
-    (words : List Placed) × IsTokens bytes words × Refused kind grammar.Query (lexemes words) at
+    (words : List Placed) × IsTokens bytes words × Refused grammar.Query (lexemes words) at
 IsFault schema bytes (BadType at) = (query : Query) × Reads bytes query × (query_type schema query ≡ Err at)
 IsFault schema bytes Memory = Unit {0}
 

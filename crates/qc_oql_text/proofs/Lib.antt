@@ -1,10 +1,4 @@
-mod Alike
-mod Begins
-mod Exactness
-mod Nodes
-mod Optional
-mod Pieces
+mod Checked
+mod Notes
+mod Samples
 mod Scanned
-mod Sizes
-mod Views
-mod Whole

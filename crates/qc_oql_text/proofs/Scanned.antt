@@ -1,25 +1,30 @@
--- The tokens of a scan, taken one after the other.
+-- The tokens of a scan, one after the other.
 use Rattle.std.proofs.Common.{◌≡◌, ◌≤◌, ◌<◌, ℕ, zero, suc, ◌+◌, List, [], ◌∷◌, ◌++◌, map, length, take, refl, sym, ap, ◌∙◌, subst, arith}
 use Rattle.std.specs.Prelude.{slice_get}
-use denote.Ref.{Bor}
-use Rattle.std.proofs.lemmas.List.{length-map, map-append, take_all}
+use Rattle.std.proofs.lemmas.List.{length-map, take_all}
 use Rattle.qc_lex.specs.declared.token.Placed.{Placed}
 use Rattle.qc_lex.specs.Words.{lexemes}
-use Rattle.qc_oql_tree.specs.declared.lexeme.Lexeme.{Lexeme}
-use Rattle.qc_oql_tree.specs.Lexemes.{lexeme, lexeme_or}
+use Rattle.qc_oql_tree.specs.Lexemes.{kind, lexeme_or}
+use Rattle.qc_oql_tree.specs.Grammar.{token_or}
 
-one_more : (ws : List Placed) (at : ℕ) → at < length ws → take (suc at) (lexemes ws) ≡ take at (lexemes ws) ++ lexeme_or (slice_get ws at) ∷ []
+-- a token of the scan is one of its lexemes
+pub same_token : (ws : List Placed) (at : ℕ) → lexeme_or (slice_get ws at) ≡ token_or (slice_get (lexemes ws) at)
+same_token [] at = refl
+same_token (w ∷ ws) zero = refl
+same_token (w ∷ ws) (suc at) = same_token ws at
+
+one_more : (ws : List Placed) (at : ℕ) → at < length ws → map kind (take (suc at) (lexemes ws)) ≡ map kind (take at (lexemes ws)) ++ kind (lexeme_or (slice_get ws at)) ∷ []
 one_more [] at h = absurd (omega arith)
 one_more (w ∷ ws) zero h = refl
-one_more (w ∷ ws) (suc at) h = ap (λ ls. w.lexeme ∷ ls) (one_more ws at (omega arith))
+one_more (w ∷ ws) (suc at) h = ap (λ ks. kind w.lexeme ∷ ks) (one_more ws at (omega arith))
 
--- the next token
-pub next_token : (words : Bor (List Placed)) (at : ℕ) (ts : List Lexeme) → at < length words.now → map lexeme ts ≡ take at (lexemes words.now)
-    → map lexeme (ts ++ record { words = words; at = at } ∷ []) ≡ take (at + 1) (lexemes words.now)
-next_token words at ts h e =
+-- the next kind
+pub next_kind : (ws : List Placed) (at : ℕ) (ks : List ℕ) → at < length ws → ks ≡ map kind (take at (lexemes ws))
+    → ks ++ kind (lexeme_or (slice_get ws at)) ∷ [] ≡ map kind (take (at + 1) (lexemes ws))
+next_kind ws at ks h e =
     let n : at + 1 ≡ suc at = omega arith in
-    rw n (map-append lexeme ts (record { words = words; at = at } ∷ []) ∙ (ap (λ ls. ls ++ lexeme_or (slice_get words.now at) ∷ []) e ∙ sym (one_more words.now at h)))
+    rw n (ap (λ js. js ++ kind (lexeme_or (slice_get ws at)) ∷ []) e ∙ sym (one_more ws at h))
 
--- all tokens
-pub all_of : (ws : List Placed) (at : ℕ) (ts : List Lexeme) → length ws ≤ at → map lexeme ts ≡ take at (lexemes ws) → map lexeme ts ≡ lexemes ws
-all_of ws at ts h e = e ∙ take_all at (lexemes ws) (omega (arith, length-map ws (λ w. w.lexeme)))
+-- all kinds
+pub all_kinds : (ws : List Placed) (at : ℕ) (ks : List ℕ) → length ws ≤ at → ks ≡ map kind (take at (lexemes ws)) → ks ≡ map kind (lexemes ws)
+all_kinds ws at ks h e = e ∙ ap (map kind) (take_all at (lexemes ws) (omega (arith, length-map ws (λ w. w.lexeme))))

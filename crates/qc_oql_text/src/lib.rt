@@ -1,11 +1,13 @@
 //! The text of OQL: the tokens of a scan to the one tree that they spell, or to the place of the fault.
 #![tactic(auto)]
 
-mod atoms;
-mod clauses;
-mod levels;
+mod actions;
+mod lists;
 mod reader;
-mod rules;
-mod words;
+mod stack;
+mod table;
+mod tokens;
+mod trees;
+mod value;
 
 pub use reader::parse;

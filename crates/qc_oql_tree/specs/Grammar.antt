@@ -1,8 +1,8 @@
--- The grammar of OQL: which tokens spell which tree, one case for each alternative.
-use Rattle.std.specs.Prelude.{◌≡◌, ℕ, ℤ, neg_ℤ, Bool, true, false, List, [], ◌∷◌, ◌++◌, Option, Some, None}
-use Rattle.qc_grammar.specs.declared.placed.Placed.{Placed}
-use Rattle.qc_grammar.specs.Tokens as placed
-use Rattle.qc_grammar.specs.Tokens.{Of, Is, sees_any}
+-- The grammar of OQL: from which token on and up to which one a tree is spelled, one case for each alternative.
+use Rattle.std.specs.Prelude.{◌≡◌, ℕ, suc, ℤ, neg_ℤ, Bool, true, false, List, [], ◌∷◌, ◌++◌, length, map, slice_get}
+use Rattle.std.specs.Prelude.{Option, Some, None}
+use Rattle.qc_grammar.specs.inner.Machine.{member}
+use Rattle.qc_lex.specs.declared.token.Kind.TheVariants.{Mark}
 use Rattle.qc_lex.specs.declared.token.Lexeme.{Lexeme}
 use Rattle.qc_oql_tree.specs.declared.tree.Oql.{Oql}
 use Rattle.qc_oql_tree.specs.declared.tree.Oql.TheVariants as tree
@@ -12,219 +12,230 @@ use Rattle.qc_oql_tree.specs.declared.tree.Filter.{Filter}
 use Rattle.qc_oql_tree.specs.declared.tree.Order.{Order}
 use Rattle.qc_oql_tree.specs.declared.tree.Key.{Key}
 use Rattle.qc_oql_tree.specs.declared.tree.Query as queries
-use Rattle.qc_oql_tree.specs.declared.tree.Unary.TheVariants as unary
 use Rattle.qc_oql_tree.specs.declared.tree.Quantifier.TheVariants as quantifier
 use Rattle.qc_oql_tree.specs.declared.tree.Direction.{Direction}
 use Rattle.qc_oql_tree.specs.declared.tree.Direction.TheVariants as direction
-use Rattle.qc_oql_tree.specs.Kinds.{NAME, DEFINE, AS, SELECT, DISTINCT, FROM, WHERE, ORDER, BY, IN, IF, THEN, ELSE, EXISTS, FOR, ALL, OR, AND, NOT, LIKE, STRUCT, BAG, MATCH, LEFT, RIGHT, NONZERO, TEXT, OPEN, CLOSE, COMMA, DOT, COLON, SEMICOLON, MINUS, TIMES, WHOLES, CONSTANTS, SETS, SUMS, DIVISIONS, TESTS, DIRECTIONS, UNARIES, BINARIES, BRANDINGS, LABELS}
-use Rattle.qc_oql_tree.specs.Lexemes.{whole, content}
+use Rattle.qc_oql_tree.specs.Kinds.{NAME, DEFINE, AS, SELECT, DISTINCT, FROM, WHERE, ORDER, BY, IN, ASC, DESC, IF, THEN}
+use Rattle.qc_oql_tree.specs.Kinds.{ELSE, EXISTS, FOR, ALL, OR, AND, NOT, LIKE, STRUCT, BAG, MATCH, LEFT, RIGHT, NONZERO}
+use Rattle.qc_oql_tree.specs.Kinds.{TEXT, OPEN, CLOSE, COMMA, DOT, COLON, SEMICOLON, MINUS, TIMES}
+use Rattle.qc_oql_tree.specs.Kinds.{WHOLES, CONSTANTS, SETS, SUMS, DIVISIONS, TESTS, UNARIES, BINARIES, BRANDINGS, LABELS}
+use Rattle.qc_oql_tree.specs.Lexemes.{kind, whole, content}
 use Rattle.qc_oql_tree.specs.Trees.{named, select, filter, order, key}
-use Rattle.qc_oql_tree.specs.Operators.{constant_of, unary_of, binary_of, division_of, branding_of, direction_of}
+use Rattle.qc_oql_tree.specs.Operators.{constant_of, unary_of, binary_of, division_of, branding_of}
 
--- a token in its place
-abbrev pub Token : Type 0
-Token = Placed Lexeme
+-- a token, or where there is none a mark of no letter
+abbrev pub token_or : Option Lexeme → Lexeme
+token_or (Some t) = t
+token_or None = record { kind = Mark; piece = [] }
 
-abbrev pub Tokens : Type 0
-Tokens = placed.Tokens Lexeme
+module _ (tokens : List Lexeme) where
+  -- the token at a place
+  abbrev pub token : ℕ → Lexeme
+  token i = token_or (slice_get tokens i)
 
-mutual
-  -- expr = "select" selection | q
-  pub data Expr : Tokens → Oql → Type 0 where
-    selected : {s : Token} {u : Tokens} {x : Select} → Is SELECT s → Selection u x → Expr (s ∷ u) (tree.Select s.at x)
-    value : {u : Tokens} {x : Oql} → Q u x → Expr u x
+  -- the kind of the token at a place
+  abbrev pub kind_at : ℕ → ℕ
+  kind_at i = kind (token i)
 
-  -- selection = projection sources [ "where" q ] [ "order" "by" keys ]
-  pub data Selection : Tokens → Select → Type 0 where
-    selection : {u v w z : Tokens} {p : Bool × Oql} {bs : List Named} {f : Option Filter} {o : Option Order} → Projection u p → Sources v bs → Filtered w f → Ordered z o
-        → Selection (u ++ (v ++ (w ++ z))) (select p.0 p.1 bs f o)
+  -- the text of the token at a place
+  abbrev pub text_at : ℕ → List ℕ
+  text_at i = (token i).piece
 
-  -- projection = "distinct" q | q, which does not begin with "distinct"
-  pub data Projection : Tokens → Bool × Oql → Type 0 where
-    distinct : {d : Token} {u : Tokens} {x : Oql} → Is DISTINCT d → Q u x → Projection (d ∷ u) (true, x)
-    all : {u : Tokens} {x : Oql} → sees_any (DISTINCT ∷ []) u ≡ false → Q u x → Projection u (false, x)
+  -- there is a token of this kind at the place
+  abbrev pub Is : ℕ → ℕ → Type 0
+  Is i k = slice_get (map kind tokens) i ≡ Some k
 
-  -- sources = "from" bind { "," bind }
-  pub data Sources : Tokens → List Named → Type 0 where
-    sources : {f : Token} {u : Tokens} {bs : List Named} → Is FROM f → Binds u bs → Sources (f ∷ u) bs
+  -- there is a token of one of these kinds at the place
+  abbrev pub Among : ℕ → List ℕ → Type 0
+  Among i ks = (k : ℕ) × Is i k × (member k ks ≡ true)
 
-  pub data Binds : Tokens → List Named → Type 0 where
-    last_bind : {u : Tokens} {b : Named} → Bind u b → Binds u (b ∷ [])
-    next_bind : {c : Token} {u v : Tokens} {b : Named} {bs : List Named} → Bind u b → Is COMMA c → Binds v bs → Binds (u ++ c ∷ v) (b ∷ bs)
+  mutual
+    -- expr = "select" selection | q
+    pub data Expr : ℕ → ℕ → Oql → Type 0 where
+      selected : {i j : ℕ} {x : Select} → Is i SELECT → Selection (suc i) j x → Expr i j (tree.Select i x)
+      value : {i j : ℕ} {x : Oql} → Q i j x → Expr i j x
 
-  -- bind = NAME "in" q
-  pub data Bind : Tokens → Named → Type 0 where
-    bind : {n i : Token} {u : Tokens} {x : Oql} → Is NAME n → Is IN i → Q u x → Bind (n ∷ i ∷ u) (named n.at n.token.piece x)
+    -- selection = projection "from" bindings [ "where" q ] [ "order" "by" keys ]
+    pub data Selection : ℕ → ℕ → Select → Type 0 where
+      selection : {i j k l m : ℕ} {d : Bool} {x : Oql} {bs : List Named} {f : Option Filter} {o : Option Order}
+          → Projection i j d x → Is j FROM → Bindings (suc j) k bs → Filtered k l f → Ordered l m o
+          → Selection i m (select d x bs f o)
 
-  pub data Filtered : Tokens → Option Filter → Type 0 where
-    filtered : {w : Token} {u : Tokens} {x : Oql} → Is WHERE w → Q u x → Filtered (w ∷ u) (Some (filter w.at x))
-    unfiltered : Filtered [] None
+    -- projection = "distinct" q | q, which does not begin with "distinct"
+    pub data Projection : ℕ → ℕ → Bool → Oql → Type 0 where
+      distinct : {i j : ℕ} {x : Oql} → Is i DISTINCT → Q (suc i) j x → Projection i j true x
+      all : {i j : ℕ} {x : Oql} → (Is i DISTINCT → ⊥) → Q i j x → Projection i j false x
 
-  pub data Ordered : Tokens → Option Order → Type 0 where
-    ordered : {o b : Token} {u : Tokens} {ks : List Key} → Is ORDER o → Is BY b → Keys u ks → Ordered (o ∷ b ∷ u) (Some (order o.at ks))
-    unordered : Ordered [] None
+    -- bindings = binding | bindings "," binding
+    pub data Bindings : ℕ → ℕ → List Named → Type 0 where
+      one_binding : {i j : ℕ} {b : Named} → Binding i j b → Bindings i j (b ∷ [])
+      more_bindings : {i j k : ℕ} {bs : List Named} {b : Named}
+          → Bindings i j bs → Is j COMMA → Binding (suc j) k b → Bindings i k (bs ++ b ∷ [])
 
-  -- keys = key { "," key }
-  pub data Keys : Tokens → List Key → Type 0 where
-    last_key : {u : Tokens} {k : Key} → SortKey u k → Keys u (k ∷ [])
-    next_key : {c : Token} {u v : Tokens} {k : Key} {ks : List Key} → SortKey u k → Is COMMA c → Keys v ks → Keys (u ++ c ∷ v) (k ∷ ks)
+    -- binding = NAME "in" q
+    pub data Binding : ℕ → ℕ → Named → Type 0 where
+      binding : {i j : ℕ} {x : Oql} → Is i NAME → Is (suc i) IN → Q (suc (suc i)) j x → Binding i j (named i (text_at i) x)
 
-  -- key = q [ "asc" | "desc" ]
-  pub data SortKey : Tokens → Key → Type 0 where
-    sort_key : {u v : Tokens} {x : Oql} {d : Direction} → Q u x → Directed v d → SortKey (u ++ v) (key x d)
+    pub data Filtered : ℕ → ℕ → Option Filter → Type 0 where
+      filtered : {i j : ℕ} {x : Oql} → Is i WHERE → Q (suc i) j x → Filtered i j (Some (filter i x))
+      unfiltered : {i : ℕ} → Filtered i i None
 
-  pub data Directed : Tokens → Direction → Type 0 where
-    directed : {t : Token} → Of DIRECTIONS t → Directed (t ∷ []) (direction_of t.kind)
-    undirected : Directed [] direction.Asc
+    pub data Ordered : ℕ → ℕ → Option Order → Type 0 where
+      ordered : {i j : ℕ} {ks : List Key} → Is i ORDER → Is (suc i) BY → Keys (suc (suc i)) j ks → Ordered i j (Some (order i ks))
+      unordered : {i : ℕ} → Ordered i i None
 
-  -- q = "if" q branches | "exists" bind ":" q | "for" "all" bind ":" q | or
-  pub data Q : Tokens → Oql → Type 0 where
-    if_else : {i : Token} {u v : Tokens} {x : Oql} {b : Oql × Oql} → Is IF i → Q u x → Branches v b → Q (i ∷ (u ++ v)) (tree.If i.at x b.0 b.1)
-    exists : {e c : Token} {u v : Tokens} {b : Named} {x : Oql} → Is EXISTS e → Bind u b → Is COLON c → Q v x → Q (e ∷ (u ++ c ∷ v)) (tree.Quantified e.at quantifier.Exists b x)
-    for_all : {f a c : Token} {u v : Tokens} {b : Named} {x : Oql} → Is FOR f → Is ALL a → Bind u b → Is COLON c → Q v x → Q (f ∷ a ∷ (u ++ c ∷ v)) (tree.Quantified f.at quantifier.ForAll b x)
-    simple : {u : Tokens} {x : Oql} → Or u x → Q u x
+    -- keys = key | keys "," key
+    pub data Keys : ℕ → ℕ → List Key → Type 0 where
+      one_key : {i j : ℕ} {k : Key} → SortKey i j k → Keys i j (k ∷ [])
+      more_keys : {i j l : ℕ} {ks : List Key} {k : Key} → Keys i j ks → Is j COMMA → SortKey (suc j) l k → Keys i l (ks ++ k ∷ [])
 
-  -- branches = "then" q "else" q
-  pub data Branches : Tokens → Oql × Oql → Type 0 where
-    branches : {t e : Token} {u v : Tokens} {x y : Oql} → Is THEN t → Q u x → Is ELSE e → Q v y → Branches (t ∷ (u ++ e ∷ v)) (x, y)
+    -- key = q [ "asc" | "desc" ]
+    pub data SortKey : ℕ → ℕ → Key → Type 0 where
+      sort_key : {i j k : ℕ} {x : Oql} {d : Direction} → Q i j x → Directed j k d → SortKey i k (key x d)
 
-  -- or = and { "or" and }, behind the tree so far, so that operators of one level group to the left
-  pub data Or : Tokens → Oql → Type 0 where
-    or : {u v : Tokens} {x y : Oql} → And u x → Ors x v y → Or (u ++ v) y
+    pub data Directed : ℕ → ℕ → Direction → Type 0 where
+      ascending : {i : ℕ} → Is i ASC → Directed i (suc i) direction.Asc
+      descending : {i : ℕ} → Is i DESC → Directed i (suc i) direction.Desc
+      undirected : {i : ℕ} → Directed i i direction.Asc
 
-  pub data Ors : Oql → Tokens → Oql → Type 0 where
-    or_more : {o : Token} {u v : Tokens} {x y z : Oql} → Is OR o → And u y → Ors (tree.Binary o.at (binary_of o.kind) x y) v z → Ors x (o ∷ (u ++ v)) z
-    or_end : {x : Oql} → Ors x [] x
+    -- q = "if" q "then" q "else" q | "exists" binding ":" q | "for" "all" binding ":" q | or
+    pub data Q : ℕ → ℕ → Oql → Type 0 where
+      if_else : {i j k l : ℕ} {x y z : Oql} → Is i IF → Q (suc i) j x → Is j THEN → Q (suc j) k y → Is k ELSE → Q (suc k) l z
+          → Q i l (tree.If i x y z)
+      exists : {i j k : ℕ} {b : Named} {x : Oql} → Is i EXISTS → Binding (suc i) j b → Is j COLON → Q (suc j) k x
+          → Q i k (tree.Quantified i quantifier.Exists b x)
+      for_all : {i j k : ℕ} {b : Named} {x : Oql}
+          → Is i FOR → Is (suc i) ALL → Binding (suc (suc i)) j b → Is j COLON → Q (suc j) k x
+          → Q i k (tree.Quantified i quantifier.ForAll b x)
+      simple : {i j : ℕ} {x : Oql} → Or i j x → Q i j x
 
-  -- and = not { "and" not }
-  pub data And : Tokens → Oql → Type 0 where
-    and : {u v : Tokens} {x y : Oql} → Not u x → Ands x v y → And (u ++ v) y
+    -- or = or "or" and | and
+    pub data Or : ℕ → ℕ → Oql → Type 0 where
+      or : {i j k : ℕ} {x y : Oql} → Or i j x → Is j OR → And (suc j) k y → Or i k (tree.Binary j (binary_of (kind_at j)) x y)
+      one_or : {i j : ℕ} {x : Oql} → And i j x → Or i j x
 
-  pub data Ands : Oql → Tokens → Oql → Type 0 where
-    and_more : {o : Token} {u v : Tokens} {x y z : Oql} → Is AND o → Not u y → Ands (tree.Binary o.at (binary_of o.kind) x y) v z → Ands x (o ∷ (u ++ v)) z
-    and_end : {x : Oql} → Ands x [] x
+    -- and = and "and" not | not
+    pub data And : ℕ → ℕ → Oql → Type 0 where
+      and : {i j k : ℕ} {x y : Oql}
+          → And i j x → Is j AND → Not (suc j) k y → And i k (tree.Binary j (binary_of (kind_at j)) x y)
+      one_and : {i j : ℕ} {x : Oql} → Not i j x → And i j x
 
-  -- not = "not" not | rel
-  pub data Not : Tokens → Oql → Type 0 where
-    not : {o : Token} {u : Tokens} {x : Oql} → Is NOT o → Not u x → Not (o ∷ u) (tree.Unary o.at unary.Not x)
-    test : {u : Tokens} {x : Oql} → Rel u x → Not u x
+    -- not = "not" not | rel
+    pub data Not : ℕ → ℕ → Oql → Type 0 where
+      not : {i j : ℕ} {x : Oql} → Is i NOT → Not (suc i) j x → Not i j (tree.Unary i (unary_of (kind_at i)) x)
+      test : {i j : ℕ} {x : Oql} → Rel i j x → Not i j x
 
-  -- rel = sets [ ( "=" | "!=" | "<" | "<=" | ">" | ">=" | "in" ) sets | "like" TEXT ]
-  pub data Rel : Tokens → Oql → Type 0 where
-    rel : {u v : Tokens} {x y : Oql} → Sets u x → Tested x v y → Rel (u ++ v) y
+    -- rel = sets [ ( "=" | "!=" | "<" | "<=" | ">" | ">=" | "in" ) sets | "like" TEXT ]
+    pub data Rel : ℕ → ℕ → Oql → Type 0 where
+      compared : {i j k : ℕ} {x y : Oql}
+          → Sets i j x → Among j TESTS → Sets (suc j) k y → Rel i k (tree.Binary j (binary_of (kind_at j)) x y)
+      like : {i j : ℕ} {x : Oql} → Sets i j x → Is j LIKE → Is (suc j) TEXT
+          → Rel i (suc (suc j)) (tree.Like j x (content (token (suc j))))
+      untested : {i j : ℕ} {x : Oql} → Sets i j x → Rel i j x
 
-  pub data Tested : Oql → Tokens → Oql → Type 0 where
-    compared : {o : Token} {u : Tokens} {x y : Oql} → Of TESTS o → Sets u y → Tested x (o ∷ u) (tree.Binary o.at (binary_of o.kind) x y)
-    like : {l t : Token} {x : Oql} → Is LIKE l → Is TEXT t → Tested x (l ∷ t ∷ []) (tree.Like l.at x (content t.token))
-    plain : {x : Oql} → Tested x [] x
+    -- sets = sets ( "union" | "except" | "intersect" ) sum | sum
+    pub data Sets : ℕ → ℕ → Oql → Type 0 where
+      sets : {i j k : ℕ} {x y : Oql}
+          → Sets i j x → Among j SETS → Sum (suc j) k y → Sets i k (tree.Binary j (binary_of (kind_at j)) x y)
+      one_set : {i j : ℕ} {x : Oql} → Sum i j x → Sets i j x
 
-  -- sets = sum { ( "union" | "except" | "intersect" ) sum }
-  pub data Sets : Tokens → Oql → Type 0 where
-    sets : {u v : Tokens} {x y : Oql} → Sum u x → MoreSets x v y → Sets (u ++ v) y
+    -- sum = sum ( "+" | "-" | "||" ) product | product
+    pub data Sum : ℕ → ℕ → Oql → Type 0 where
+      sum : {i j k : ℕ} {x y : Oql}
+          → Sum i j x → Among j SUMS → Product (suc j) k y → Sum i k (tree.Binary j (binary_of (kind_at j)) x y)
+      one_summand : {i j : ℕ} {x : Oql} → Product i j x → Sum i j x
 
-  pub data MoreSets : Oql → Tokens → Oql → Type 0 where
-    set_more : {o : Token} {u v : Tokens} {x y z : Oql} → Of SETS o → Sum u y → MoreSets (tree.Binary o.at (binary_of o.kind) x y) v z → MoreSets x (o ∷ (u ++ v)) z
-    set_end : {x : Oql} → MoreSets x [] x
+    -- product = product "*" neg | product ( "/" | "mod" ) divisor | neg
+    pub data Product : ℕ → ℕ → Oql → Type 0 where
+      times : {i j k : ℕ} {x y : Oql}
+          → Product i j x → Is j TIMES → Neg (suc j) k y → Product i k (tree.Binary j (binary_of (kind_at j)) x y)
+      divided : {i j k : ℕ} {x : Oql} {n : ℤ}
+          → Product i j x → Among j DIVISIONS → Divisor (suc j) k n → Product i k (tree.Divide j (division_of (kind_at j)) x n)
+      one_factor : {i j : ℕ} {x : Oql} → Neg i j x → Product i j x
 
-  -- sum = product { ( "+" | "-" | "||" ) product }
-  pub data Sum : Tokens → Oql → Type 0 where
-    sum : {u v : Tokens} {x y : Oql} → Product u x → Summands x v y → Sum (u ++ v) y
+    -- divisor = [ "-" ] NONZERO
+    pub data Divisor : ℕ → ℕ → ℤ → Type 0 where
+      negative : {i : ℕ} → Is i MINUS → Is (suc i) NONZERO → Divisor i (suc (suc i)) (neg_ℤ (whole (token (suc i))))
+      positive : {i : ℕ} → Is i NONZERO → Divisor i (suc i) (whole (token i))
 
-  pub data Summands : Oql → Tokens → Oql → Type 0 where
-    sum_more : {o : Token} {u v : Tokens} {x y z : Oql} → Of SUMS o → Product u y → Summands (tree.Binary o.at (binary_of o.kind) x y) v z → Summands x (o ∷ (u ++ v)) z
-    sum_end : {x : Oql} → Summands x [] x
+    -- neg = "-" neg | path
+    pub data Neg : ℕ → ℕ → Oql → Type 0 where
+      neg : {i j : ℕ} {x : Oql} → Is i MINUS → Neg (suc i) j x → Neg i j (tree.Unary i (unary_of (kind_at i)) x)
+      unsigned : {i j : ℕ} {x : Oql} → Path i j x → Neg i j x
 
-  -- product = neg { "*" neg | ( "/" | "mod" ) divisor }
-  pub data Product : Tokens → Oql → Type 0 where
-    product : {u v : Tokens} {x y : Oql} → Neg u x → Factors x v y → Product (u ++ v) y
+    -- path = path "." LABEL | atom
+    pub data Path : ℕ → ℕ → Oql → Type 0 where
+      dot : {i j : ℕ} {x : Oql} → Path i j x → Is j DOT → Among (suc j) LABELS
+          → Path i (suc (suc j)) (tree.Dot (suc j) x (text_at (suc j)))
+      one_atom : {i j : ℕ} {x : Oql} → Atom i j x → Path i j x
 
-  pub data Factors : Oql → Tokens → Oql → Type 0 where
-    times : {o : Token} {u v : Tokens} {x y z : Oql} → Is TIMES o → Neg u y → Factors (tree.Binary o.at (binary_of o.kind) x y) v z → Factors x (o ∷ (u ++ v)) z
-    divided : {o : Token} {u v : Tokens} {k : ℤ} {x z : Oql} → Of DIVISIONS o → Divisor u k → Factors (tree.Divide o.at (division_of o.kind) x k) v z → Factors x (o ∷ (u ++ v)) z
-    product_end : {x : Oql} → Factors x [] x
+    -- atom = WHOLE | TEXT | "true" | "false" | "nil" | NAME | "(" expr ")" | "struct" "(" fields ")" | "bag" "(" members ")"
+    -- | unary "(" expr ")" | binary "(" q "," q ")" | ( "cast" | "brand" ) "(" NAME "," expr ")"
+    -- | "match" "(" q "," "left" NAME ":" q "," "right" NAME ":" q ")"
+    pub data Atom : ℕ → ℕ → Oql → Type 0 where
+      number : {i : ℕ} → Among i WHOLES → Atom i (suc i) (tree.Whole i (whole (token i)))
+      text : {i : ℕ} → Is i TEXT → Atom i (suc i) (tree.Text i (content (token i)))
+      constant : {i : ℕ} → Among i CONSTANTS → Atom i (suc i) (tree.Constant i (constant_of (kind_at i)))
+      name : {i : ℕ} → Is i NAME → Atom i (suc i) (tree.Name i (text_at i))
+      parens : {i j : ℕ} {x : Oql} → Is i OPEN → Expr (suc i) j x → Is j CLOSE → Atom i (suc j) x
+      struct : {i j : ℕ} {fs : List Named} → Is i STRUCT → Is (suc i) OPEN → Fields (suc (suc i)) j fs → Is j CLOSE
+          → Atom i (suc j) (tree.Struct i fs)
+      bag : {i j : ℕ} {xs : List Oql} → Is i BAG → Is (suc i) OPEN → Members (suc (suc i)) j xs → Is j CLOSE
+          → Atom i (suc j) (tree.Bag i xs)
+      call : {i j : ℕ} {x : Oql} → Among i UNARIES → Is (suc i) OPEN → Expr (suc (suc i)) j x → Is j CLOSE
+          → Atom i (suc j) (tree.Unary i (unary_of (kind_at i)) x)
+      call_two : {i j k : ℕ} {x y : Oql}
+          → Among i BINARIES → Is (suc i) OPEN → Q (suc (suc i)) j x → Is j COMMA → Q (suc j) k y → Is k CLOSE
+          → Atom i (suc k) (tree.Binary i (binary_of (kind_at i)) x y)
+      brand : {i j : ℕ} {x : Oql} → Among i BRANDINGS → Is (suc i) OPEN → Is (suc (suc i)) NAME → Is (suc (suc (suc i))) COMMA
+          → Expr (suc (suc (suc (suc i)))) j x → Is j CLOSE
+          → Atom i (suc j) (tree.Brand i (branding_of (kind_at i)) (text_at (suc (suc i))) x)
+      match : {i j k l : ℕ} {x : Oql} {left right : Named} → Is i MATCH → Is (suc i) OPEN → Q (suc (suc i)) j x
+          → Is j COMMA → Case LEFT (suc j) k left → Is k COMMA → Case RIGHT (suc k) l right → Is l CLOSE
+          → Atom i (suc l) (tree.Match i x left right)
 
-  -- divisor = [ "-" ] NONZERO
-  pub data Divisor : Tokens → ℤ → Type 0 where
-    negative : {m n : Token} → Is MINUS m → Is NONZERO n → Divisor (m ∷ n ∷ []) (neg_ℤ (whole n.token))
-    positive : {n : Token} → Is NONZERO n → Divisor (n ∷ []) (whole n.token)
+    -- fields = [ field { "," field } ]
+    pub data Fields : ℕ → ℕ → List Named → Type 0 where
+      no_fields : {i : ℕ} → Fields i i []
+      fields : {i j : ℕ} {fs : List Named} → SomeFields i j fs → Fields i j fs
 
-  -- neg = "-" neg | path
-  pub data Neg : Tokens → Oql → Type 0 where
-    neg : {o : Token} {u : Tokens} {x : Oql} → Is MINUS o → Neg u x → Neg (o ∷ u) (tree.Unary o.at unary.Neg x)
-    unsigned : {u : Tokens} {x : Oql} → Path u x → Neg u x
+    pub data SomeFields : ℕ → ℕ → List Named → Type 0 where
+      one_field : {i j : ℕ} {f : Named} → Field i j f → SomeFields i j (f ∷ [])
+      more_fields : {i j k : ℕ} {fs : List Named} {f : Named}
+          → SomeFields i j fs → Is j COMMA → Field (suc j) k f → SomeFields i k (fs ++ f ∷ [])
 
-  -- path = atom { "." LABEL }
-  pub data Path : Tokens → Oql → Type 0 where
-    path : {u v : Tokens} {x y : Oql} → Atom u x → Dots x v y → Path (u ++ v) y
+    -- field = LABEL ":" q
+    pub data Field : ℕ → ℕ → Named → Type 0 where
+      field : {i j : ℕ} {x : Oql} → Among i LABELS → Is (suc i) COLON → Q (suc (suc i)) j x → Field i j (named i (text_at i) x)
 
-  pub data Dots : Oql → Tokens → Oql → Type 0 where
-    dot : {d l : Token} {v : Tokens} {x z : Oql} → Is DOT d → Of LABELS l → Dots (tree.Dot l.at x l.token.piece) v z → Dots x (d ∷ l ∷ v) z
-    path_end : {x : Oql} → Dots x [] x
+    -- members = [ q { "," q } ]
+    pub data Members : ℕ → ℕ → List Oql → Type 0 where
+      no_members : {i : ℕ} → Members i i []
+      members : {i j : ℕ} {xs : List Oql} → SomeMembers i j xs → Members i j xs
 
-  -- atom = WHOLE | TEXT | "true" | "false" | "nil" | NAME | "(" expr ")" | "struct" "(" fields | "bag" "(" members | unary "(" expr ")"
-  -- | binary "(" q "," q ")" | ( "cast" | "brand" ) "(" NAME "," expr ")" | "match" "(" q "," cases ")"
-  pub data Atom : Tokens → Oql → Type 0 where
-    number : {t : Token} → Of WHOLES t → Atom (t ∷ []) (tree.Whole t.at (whole t.token))
-    text : {t : Token} → Is TEXT t → Atom (t ∷ []) (tree.Text t.at (content t.token))
-    constant : {t : Token} → Of CONSTANTS t → Atom (t ∷ []) (tree.Constant t.at (constant_of t.kind))
-    name : {t : Token} → Is NAME t → Atom (t ∷ []) (tree.Name t.at t.token.piece)
-    parens : {o c : Token} {u : Tokens} {x : Oql} → Is OPEN o → Expr u x → Is CLOSE c → Atom (o ∷ (u ++ c ∷ [])) x
-    struct : {s o : Token} {u : Tokens} {fs : List Named} → Is STRUCT s → Is OPEN o → Fields u fs → Atom (s ∷ o ∷ u) (tree.Struct s.at fs)
-    bag : {b o : Token} {u : Tokens} {xs : List Oql} → Is BAG b → Is OPEN o → Members u xs → Atom (b ∷ o ∷ u) (tree.Bag b.at xs)
-    call : {f o c : Token} {u : Tokens} {x : Oql} → Of UNARIES f → Is OPEN o → Expr u x → Is CLOSE c → Atom (f ∷ o ∷ (u ++ c ∷ [])) (tree.Unary f.at (unary_of f.kind) x)
-    call_two : {f o m c : Token} {u v : Tokens} {x y : Oql} → Of BINARIES f → Is OPEN o → Q u x → Is COMMA m → Q v y → Is CLOSE c
-        → Atom (f ∷ o ∷ (u ++ m ∷ (v ++ c ∷ []))) (tree.Binary f.at (binary_of f.kind) x y)
-    brand : {f o n m c : Token} {u : Tokens} {x : Oql} → Of BRANDINGS f → Is OPEN o → Is NAME n → Is COMMA m → Expr u x → Is CLOSE c
-        → Atom (f ∷ o ∷ n ∷ m ∷ (u ++ c ∷ [])) (tree.Brand f.at (branding_of f.kind) n.token.piece x)
-    match : {f o m c : Token} {u v : Tokens} {x : Oql} {b : Named × Named} → Is MATCH f → Is OPEN o → Q u x → Is COMMA m → Cases v b → Is CLOSE c
-        → Atom (f ∷ o ∷ (u ++ m ∷ (v ++ c ∷ []))) (tree.Match f.at x b.0 b.1)
+    pub data SomeMembers : ℕ → ℕ → List Oql → Type 0 where
+      one_member : {i j : ℕ} {x : Oql} → Q i j x → SomeMembers i j (x ∷ [])
+      more_members : {i j k : ℕ} {xs : List Oql} {x : Oql}
+          → SomeMembers i j xs → Is j COMMA → Q (suc j) k x → SomeMembers i k (xs ++ x ∷ [])
 
-  -- fields = [ field { "," field } ] ")"
-  pub data Fields : Tokens → List Named → Type 0 where
-    no_fields : {c : Token} → Is CLOSE c → Fields (c ∷ []) []
-    fields : {c : Token} {u : Tokens} {fs : List Named} → SomeFields u fs → Is CLOSE c → Fields (u ++ c ∷ []) fs
+    -- a case of a match: its word, NAME ":" q
+    pub data Case : ℕ → ℕ → ℕ → Named → Type 0 where
+      case : {side i j : ℕ} {x : Oql} → Is i side → Is (suc i) NAME → Is (suc (suc i)) COLON → Q (suc (suc (suc i))) j x
+          → Case side i j (named (suc i) (text_at (suc i)) x)
 
-  pub data SomeFields : Tokens → List Named → Type 0 where
-    last_field : {u : Tokens} {f : Named} → Field u f → SomeFields u (f ∷ [])
-    next_field : {c : Token} {u v : Tokens} {f : Named} {fs : List Named} → Field u f → Is COMMA c → SomeFields v fs → SomeFields (u ++ c ∷ v) (f ∷ fs)
+  -- defines = { "define" NAME "as" expr ";" }
+  pub data Defines : ℕ → ℕ → List Named → Type 0 where
+    no_define : {i : ℕ} → Defines i i []
+    more_defines : {i j k : ℕ} {ds : List Named} {x : Oql} → Defines i j ds → Is j DEFINE → Is (suc j) NAME
+        → Is (suc (suc j)) AS → Expr (suc (suc (suc j))) k x → Is k SEMICOLON
+        → Defines i (suc k) (ds ++ named (suc j) (text_at (suc j)) x ∷ [])
 
-  -- field = LABEL ":" q
-  pub data Field : Tokens → Named → Type 0 where
-    field : {l c : Token} {u : Tokens} {x : Oql} → Of LABELS l → Is COLON c → Q u x → Field (l ∷ c ∷ u) (named l.at l.token.piece x)
+  -- [ ";" ]
+  pub data Ending : ℕ → ℕ → Type 0 where
+    ended : {i : ℕ} → Is i SEMICOLON → Ending i (suc i)
+    unended : {i : ℕ} → Ending i i
 
-  -- members = [ q { "," q } ] ")"
-  pub data Members : Tokens → List Oql → Type 0 where
-    no_members : {c : Token} → Is CLOSE c → Members (c ∷ []) []
-    members : {c : Token} {u : Tokens} {xs : List Oql} → SomeMembers u xs → Is CLOSE c → Members (u ++ c ∷ []) xs
-
-  pub data SomeMembers : Tokens → List Oql → Type 0 where
-    last_member : {u : Tokens} {x : Oql} → Q u x → SomeMembers u (x ∷ [])
-    next_member : {c : Token} {u v : Tokens} {x : Oql} {xs : List Oql} → Q u x → Is COMMA c → SomeMembers v xs → SomeMembers (u ++ c ∷ v) (x ∷ xs)
-
-  -- cases = "left" NAME ":" q "," "right" NAME ":" q
-  pub data Cases : Tokens → Named × Named → Type 0 where
-    cases : {m : Token} {u v : Tokens} {x y : Named} → Case LEFT u x → Is COMMA m → Case RIGHT v y → Cases (u ++ m ∷ v) (x, y)
-
-  pub data Case : ℕ → Tokens → Named → Type 0 where
-    case : {k : ℕ} {s n c : Token} {u : Tokens} {x : Oql} → Is k s → Is NAME n → Is COLON c → Q u x → Case k (s ∷ n ∷ c ∷ u) (named n.at n.token.piece x)
-
--- define = "define" NAME "as" expr ";"
-pub data Define : Tokens → Named → Type 0 where
-  define : {d n a s : Token} {u : Tokens} {x : Oql} → Is DEFINE d → Is NAME n → Is AS a → Expr u x → Is SEMICOLON s → Define (d ∷ n ∷ a ∷ (u ++ s ∷ [])) (named n.at n.token.piece x)
-
--- defines = { define }, behind those so far
-pub data Defines : List Named → Tokens → List Named → Type 0 where
-  define_more : {u v : Tokens} {d : Named} {ds es : List Named} → Define u d → Defines (ds ++ d ∷ []) v es → Defines ds (u ++ v) es
-  define_end : {ds : List Named} → Defines ds [] ds
-
--- body = expr [ ";" ]
-pub data Ending : Oql → Tokens → Oql → Type 0 where
-  ended : {s : Token} {x : Oql} → Is SEMICOLON s → Ending x (s ∷ []) x
-  unended : {x : Oql} → Ending x [] x
-
-pub data Body : Tokens → Oql → Type 0 where
-  body : {u v : Tokens} {x y : Oql} → Expr u x → Ending x v y → Body (u ++ v) y
-
--- query = defines body
-pub data Query : Tokens → queries.Query → Type 0 where
-  query : {u v : Tokens} {ds : List Named} {x : Oql} → Defines [] u ds → Body v x → Query (u ++ v) (record { defines = ds; body = x })
+  -- query = defines expr [ ";" ], all tokens
+  pub data Query : queries.Query → Type 0 where
+    query : {i j : ℕ} {ds : List Named} {x : Oql} → Defines 0 i ds → Expr i j x → Ending j (length tokens)
+        → Query (record { defines = ds; body = x })

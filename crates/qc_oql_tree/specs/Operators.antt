@@ -12,7 +12,7 @@ use Rattle.qc_oql_tree.specs.declared.tree.Branding.{Branding}
 use Rattle.qc_oql_tree.specs.declared.tree.Branding.TheVariants as branding
 use Rattle.qc_oql_tree.specs.declared.tree.Direction.{Direction}
 use Rattle.qc_oql_tree.specs.declared.tree.Direction.TheVariants as direction
-use Rattle.qc_oql_tree.specs.Kinds.{ABS, AND, ASC, AT_LEAST, AT_MOST, AVG, CAST, COUNT, DISTINCT, DIVIDE, ELEMENT, EQUAL, EXCEPT, FALSE, FLATTEN, GLUE, GREATER, IN, INTERSECT, LEAST, LEFT, LESS, MAX, MIN, MINUS, NOT_EQUAL, OR, ORELSE, PLUS, RIGHT, SUM, TIMES, TRUE, UNBRAND, UNION}
+use Rattle.qc_oql_tree.specs.Kinds.{ABS, AND, ASC, AT_LEAST, AT_MOST, AVG, CAST, COUNT, DISTINCT, DIVIDE, ELEMENT, EQUAL, EXCEPT, FALSE, FLATTEN, GLUE, GREATER, IN, INTERSECT, LEAST, LEFT, LESS, MAX, MIN, MINUS, NOT, NOT_EQUAL, OR, ORELSE, PLUS, RIGHT, SUM, TIMES, TRUE, UNBRAND, UNION}
 
 -- the literal that a kind of word is
 abbrev pub constant_of : ℕ → Constant
@@ -20,9 +20,11 @@ constant_of k = if eqb k TRUE then constant.True
     else if eqb k FALSE then constant.False
     else constant.Nil
 
--- the function of one operand that a kind of word is
+-- the operator or function of one operand that a kind of token is
 abbrev pub unary_of : ℕ → Unary
-unary_of k = if eqb k COUNT then unary.Count
+unary_of k = if eqb k NOT then unary.Not
+    else if eqb k MINUS then unary.Neg
+    else if eqb k COUNT then unary.Count
     else if eqb k SUM then unary.Sum
     else if eqb k MIN then unary.Min
     else if eqb k MAX then unary.Max

@@ -4,8 +4,8 @@ ghost use Rattle.qc_oql_tree.specs.Operators as spec;
 
 use crate::kinds::{
     ABS, AND, ASC, AT_LEAST, AT_MOST, AVG, CAST, COUNT, DISTINCT, DIVIDE, ELEMENT, EQUAL, EXCEPT,
-    FALSE, FLATTEN, GLUE, GREATER, IN, INTERSECT, LEAST, LEFT, LESS, MAX, MIN, MINUS, NOT_EQUAL,
-    OR, ORELSE, PLUS, RIGHT, SUM, TIMES, TRUE, UNBRAND, UNION,
+    FALSE, FLATTEN, GLUE, GREATER, IN, INTERSECT, LEAST, LEFT, LESS, MAX, MIN, MINUS, NOT,
+    NOT_EQUAL, OR, ORELSE, PLUS, RIGHT, SUM, TIMES, TRUE, UNBRAND, UNION,
 };
 use crate::tree::{Binary, Branding, Constant, Direction, Division, Unary};
 
@@ -22,11 +22,15 @@ pub fn constant_of(kind: u32) -> Constant
     }
 }
 
-/// The function of one operand that a kind of word is.
+/// The operator or function of one operand that a kind of token is.
 pub fn unary_of(kind: u32) -> Unary
     ensures { result ≡ spec.unary_of kind }
 {
-    if kind == COUNT {
+    if kind == NOT {
+        Unary::Not
+    } else if kind == MINUS {
+        Unary::Neg
+    } else if kind == COUNT {
         Unary::Count
     } else if kind == SUM {
         Unary::Sum

@@ -1,0 +1,147 @@
+-- Whether a table tells its words by the next token: a check of each alternative by itself, with what is noted of the rules.
+use Rattle.std.specs.Prelude.{◌≡◌, ℕ, zero, suc, ◌+◌, Bool, true, false, cond, if◌then◌else◌, ◌&&◌, ◌||◌, not, eqb, ltb, List, [], ◌∷◌, ◌++◌, length, Option, Some, None, slice_get}
+use Rattle.qc_grammar.specs.declared.symbol.Symbol.{Symbol}
+use Rattle.qc_grammar.specs.declared.symbol.Symbol.TheVariants.{Token, Rule, Action}
+use Rattle.qc_grammar.specs.inner.Derivations.{Rules, alternatives}
+use Rattle.qc_grammar.specs.inner.Machine.{Choices, choices_of, member}
+
+-- what is noted of a rule
+pub record Note : Type 0 where
+  -- what may come next behind the rule: 0 is the end, and suc k a token of the kind k
+  pub follow : List ℕ
+  -- an alternative that leads to a word, and a number above the ranks of the rules in it
+  pub seed : ℕ
+  pub rank : ℕ
+  -- above the steps that an alternative takes before the next token
+  pub weight : ℕ
+  -- whether each word has a token
+  pub solid : Bool
+
+abbrev pub Notes : Type 0
+Notes = List Note
+
+abbrev pub follow_in : Option Note → List ℕ
+follow_in (Some n) = n.follow
+follow_in None = []
+
+abbrev pub rank_in : Option Note → ℕ
+rank_in (Some n) = n.rank
+rank_in None = 0
+
+abbrev pub seed_in : Option Note → ℕ
+seed_in (Some n) = n.seed
+seed_in None = 0
+
+abbrev pub weight_in : Option Note → ℕ
+weight_in (Some n) = n.weight
+weight_in None = 0
+
+abbrev pub solid_in : Option Note → Bool
+solid_in (Some n) = n.solid
+solid_in None = false
+
+abbrev pub follow_of : Notes → ℕ → List ℕ
+follow_of c n = follow_in (slice_get c n)
+
+abbrev pub rank_of : Notes → ℕ → ℕ
+rank_of c n = rank_in (slice_get c n)
+
+abbrev pub seed_of : Notes → ℕ → ℕ
+seed_of c n = seed_in (slice_get c n)
+
+abbrev pub weight_of : Notes → ℕ → ℕ
+weight_of c n = weight_in (slice_get c n)
+
+abbrev pub solid_of : Notes → ℕ → Bool
+solid_of c n = solid_in (slice_get c n)
+
+-- ---- sets of what may come next
+
+-- on what any of the alternatives is chosen
+abbrev pub all_choices : List (List ℕ) → List ℕ
+all_choices [] = []
+all_choices (o ∷ os) = o ++ all_choices os
+
+abbrev pub bump : ℕ → ℕ
+bump zero = 0
+bump (suc n) = suc (suc n)
+
+-- one more than the number of the alternative that is chosen on this, or 0
+abbrev pub turn : List (List ℕ) → ℕ → ℕ
+turn [] k = 0
+turn (o ∷ os) k = if member k o then 1 else bump (turn os k)
+
+-- each of the first set is in the second
+abbrev pub within : List ℕ → List ℕ → Bool
+within [] t = true
+within (k ∷ s) t = member k t && within s t
+
+-- on each of the set this alternative is chosen
+abbrev pub leads : List ℕ → ℕ → List (List ℕ) → Bool
+leads [] p os = true
+leads (k ∷ s) p os = eqb (turn os k) (suc p) && leads s p os
+
+-- by what the symbols may begin, where the set is what may come behind them
+abbrev pub begins : Choices → List Symbol → List ℕ → List ℕ
+begins o [] f = f
+begins o (Token k ∷ σ) f = suc k ∷ []
+begins o (Rule n ∷ σ) f = all_choices (choices_of o n)
+begins o (Action a ∷ σ) f = begins o σ f
+
+-- ---- the checks of an alternative
+
+-- what may come behind each rule in the symbols is noted to follow it
+abbrev pub follows : Rules → Choices → Notes → List ℕ → List Symbol → Bool
+follows g o c f [] = true
+follows g o c f (Token k ∷ σ) = follows g o c f σ
+follows g o c f (Rule n ∷ σ) = ltb n (length g) && (within (begins o σ f) (follow_of c n) && follows g o c f σ)
+follows g o c f (Action a ∷ σ) = follows g o c f σ
+
+-- the steps that the symbols may take before the next token
+abbrev pub steps : Notes → List Symbol → ℕ
+steps c [] = 0
+steps c (Token k ∷ σ) = 0
+steps c (Rule n ∷ σ) = cond (solid_of c n) (weight_of c n) (weight_of c n + steps c σ)
+steps c (Action a ∷ σ) = suc (steps c σ)
+
+-- each word of the symbols has a token
+abbrev pub stops : Notes → List Symbol → Bool
+stops c [] = false
+stops c (Token k ∷ σ) = true
+stops c (Rule n ∷ σ) = solid_of c n || stops c σ
+stops c (Action a ∷ σ) = stops c σ
+
+-- the ranks of the rules in the symbols are below this one
+abbrev pub ranked : Rules → Notes → ℕ → List Symbol → Bool
+ranked g c r [] = true
+ranked g c r (Token k ∷ σ) = ranked g c r σ
+ranked g c r (Rule n ∷ σ) = ltb n (length g) && (ltb (rank_of c n) r && ranked g c r σ)
+ranked g c r (Action a ∷ σ) = ranked g c r σ
+
+abbrev pub good : Rules → Choices → Notes → ℕ → ℕ → List Symbol → Bool
+good g o c n p body = leads (begins o body (follow_of c n)) p (choices_of o n)
+    && (follows g o c (follow_of c n) body
+    && (ltb (steps c body) (weight_of c n)
+    && (not (solid_of c n) || stops c body)))
+
+abbrev pub all_good : Rules → Choices → Notes → ℕ → ℕ → List (List Symbol) → Bool
+all_good g o c n p [] = true
+all_good g o c n p (b ∷ bs) = good g o c n p b && all_good g o c n (suc p) bs
+
+-- the seed is an alternative, of rules of less rank
+abbrev pub sown : Rules → Notes → ℕ → Option (List Symbol) → Bool
+sown g c r None = false
+sown g c r (Some b) = ranked g c r b
+
+abbrev pub all_rules : Rules → Choices → Notes → ℕ → List (List (List Symbol)) → Bool
+all_rules g o c n [] = true
+all_rules g o c n (e ∷ es) = all_good g o c n 0 (alternatives g n) && (sown g c (rank_of c n) (slice_get (alternatives g n) (seed_of c n)) && all_rules g o c (suc n) es)
+
+-- the table is exact
+abbrev pub is_exact : Rules → Choices → Notes → Bool
+is_exact g o c = all_rules g o c 0 g && (ltb 0 (length g) && member 0 (follow_of c 0))
+
+-- with some notes
+pub record IsExact (g : Rules) (o : Choices) : Type 0 where
+  pub notes : Notes
+  pub checks : is_exact g o notes ≡ true

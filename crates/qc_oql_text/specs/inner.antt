@@ -1,0 +1,4 @@
+pub mod Actions
+pub mod Meaning
+pub mod Table
+pub mod Values

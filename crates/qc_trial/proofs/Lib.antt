@@ -1,5 +1,0 @@
-mod Begins
-mod Exactness
-mod Sizes
-mod Values
-mod Whole

@@ -1,4 +1,0 @@
-use Rattle.qc_trial.proofs.reader.+reading.Given as goal
-
-abbrev pub decreases-reading : goal.decreases-reading
-decreases-reading l = l.depth

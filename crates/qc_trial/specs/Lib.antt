@@ -1,5 +1,0 @@
-pub mod Grammar
-pub mod Kinds
-pub mod Lexemes
-pub mod Reading
-pub mod Sizes
