@@ -48,5 +48,5 @@ small_query bytes words q is small =
     let few = is.few in
     record {
       each = λ others those. subst (λ ws. query_size q ≤ 16 * length ws) (same_words bytes words others is.scanned those.scanned) small;
-      all = omega (arith, small, few)
+      all = omega (arith, small, few);
     }

@@ -14,9 +14,7 @@ ghost use Rattle.qc_typing.specs.Kinds.{when};
 ghost use Rattle.qc_typing.specs.Tables.{unary_type};
 
 use crate::faults::{need, or_fault};
-use crate::operators::{
-    branded_type, divided_type, field_type, like_type, one_type, two_type,
-};
+use crate::operators::{branded_type, divided_type, field_type, like_type, one_type, two_type};
 use crate::parts::{bool_when, bound_by, coll_of, constant_type, is_atom, join_all, sides_of};
 use crate::record::{TypedField, row_of};
 use crate::scope::{Row, Scope, name_type};
