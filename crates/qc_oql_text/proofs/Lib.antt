@@ -1,4 +1,12 @@
+mod Bridge
 mod Checked
+mod Closed
+mod Complete
+mod Nodes
 mod Notes
 mod Samples
+mod Same
 mod Scanned
+mod Sizes
+mod Walks
+mod Words
