@@ -13,7 +13,7 @@ impl Lang for TypedQuery {
     ghost use Rattle.qc_oql_tree.specs.Sizes.{query_size};
     ghost use Rattle.qc_oql_tree.specs.Typing.{query_type};
     ghost use Rattle.qc_oql_tree.proofs.MeaningLaws.{agrees_query};
-    ghost use Rattle.qc_oql.proofs.Sizes.{query_sized};
+    ghost use Rattle.qc_oql_tree.proofs.Sizes.{query_sized};
 
     ghost meaning = { λ mode typed world. query mode world typed.query };
 

@@ -25,6 +25,7 @@ pub struct TypedQuery {
 /// 1,000 tokens; `BadSyntax` with the token from which on the tokens begin no query; `BadType` with the place of the
 /// first fault of the types. `Memory` says that memory was wanting. The query has at most 16 nodes for each token
 /// (`small`). In each world of the schema it has a value of the type, and in 64 bits that value or Range (`sound`).
+#[tactic(auto, using(crate::proofs::Sizes::small_query))]
 pub fn read(alloc: Global, schema: &Schema, bytes: &[u8]) -> Result<TypedQuery, QueryFault>
     requires { length bytes.now ≤ 65536 }
     ensures reads { Answers schema.now bytes.now result }

@@ -8,7 +8,7 @@ use qc_data::Name;
 use qc_ops::{Binary as OnTwo, Divisor, Unary as OnOne};
 
 /// How an operator of two operands goes back to operators on values.
-#[derive(Clone, Copy, Debug)]
+#[derive(Clone, Copy)]
 pub enum Pairing {
     /// The operator itself.
     Plain(OnTwo),
