@@ -1,5 +1,6 @@
 -- What the calls of a shelf and of a sink do to what they tell.
-use Rattle.std.specs.Prelude.{◌≡◌, ℕ, ◌+◌, ◌-◌, ◌^◌, ◌<◌, ◌≤◌, min, List, length, take, Option, Some, None, IfSome, ◌⊎◌, ◌++◌, option_map}
+use Rattle.std.specs.Prelude.{◌≡◌, ℕ, ◌+◌, ◌-◌, ◌^◌, ◌<◌, ◌≤◌, min, List, length, take, Option, Some, None, IfSome, ◌⊎◌}
+use Rattle.std.specs.Prelude.{◌++◌, option_map}
 use Rattle.std.specs.Io.KnownBytes.{append_known}
 
 -- the text of each name that has one

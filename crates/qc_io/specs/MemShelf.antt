@@ -3,7 +3,8 @@ use Rattle.std.specs.Prelude.{ℕ, List, [], ◌∷◌, Option, Some, None, if�
 use Rattle.std.specs.Str.{bytes_eq}
 use Rattle.qc_io.specs.Calls.{CallsState, no_calls}
 
--- names with their texts, the last added first, the calls of `fetch`, and the names that it was asked for, where it tells them
+-- names with their texts, the last added first, the calls of `fetch`, and the names that it was asked for, where it
+-- tells them
 pub record ShelfState : Type 0 where
   pub texts : List (List ℕ × List ℕ)
   pub calls : CallsState

@@ -1,5 +1,6 @@
 // The names that a shelf in memory was asked for.
-ghost use Rattle.std.specs.Prelude.{◌≡◌, [], ◌∷◌, Some, OnOk};
+ghost use Rattle.std.specs.Prelude.{◌≡◌, [], ◌∷◌, Some, OnOk, map, option_map};
+ghost use Rattle.std.specs.String.{string_bytes};
 ghost use Rattle.qc_io.specs.Device.{HasAsked};
 
 use qc_data::Memory;
@@ -40,6 +41,17 @@ impl Asked {
     {
         if self.add(alloc, name).is_err() {
             self.is_whole = false;
+        }
+    }
+
+    /// The names in order, or `None` where memory was wanting to note one.
+    pub(crate) fn names(&self) -> Option<&[String]>
+        ensures { option_map (λ names. map string_bytes names.now) result ≡ self.now }
+    {
+        if self.is_whole {
+            Some(self.names.as_slice())
+        } else {
+            None
         }
     }
 

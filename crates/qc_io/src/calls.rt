@@ -6,8 +6,7 @@ use qc_data::Memory;
 use std::alloc::Global;
 use std::marker::Model;
 
-/// The calls of a device that are to fail, and how many calls and faults there were.
-/// A clause sees a `CallsState`.
+/// The calls of a device that are to fail, and how many calls and faults there were. A clause sees a `CallsState`.
 #[derive(Drop)]
 pub(crate) struct Calls {
     failing: Vec<u64>,

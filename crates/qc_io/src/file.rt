@@ -6,8 +6,8 @@ use std::fs;
 use std::io::Read;
 use std::rt::Files;
 
-/// The files of the system, by their paths. It tells no texts and not what it was asked for, and counts a fault at each `Failed`,
-/// that of a missing file too. A file that gives no byte has ended.
+/// The files of the system, by their paths. It tells no texts and not what it was asked for, and counts a fault at
+/// each `Failed`, that of a missing file too. A file that gives no byte has ended.
 #[derive(Drop)]
 pub struct FileShelf<'a, R: Files> {
     files: &'a R,

@@ -1,5 +1,8 @@
 // A shelf in memory, whose failing calls are listed beforehand.
-ghost use Rattle.std.specs.Prelude.{◌≡◌, ◌≤◌, ◌<◌, ◌+◌, ◌⊎◌, ◌↔◌, ◌++◌, ◌∷◌, [], length, Some, None, OnOk, OnErr, IsErrOf, Contains, MatchOption};
+ghost use Rattle.std.specs.Prelude.{◌≡◌, ◌≤◌, ◌<◌, ◌+◌, ◌⊎◌, ◌↔◌, ◌++◌, ◌∷◌, [], length, Some, None, OnOk, OnErr};
+ghost use Rattle.std.specs.Prelude.{IsErrOf, Contains, MatchOption};
+ghost use Rattle.std.specs.Prelude.{map, option_map};
+ghost use Rattle.std.specs.String.{string_bytes};
 ghost use Rattle.qc_io.specs.Calls.{FailsNext, with_failing, called, faulted};
 ghost use Rattle.qc_io.specs.Device.{Rose, IsText, IsTooLong, IsMissing, HasAsked};
 ghost use Rattle.qc_io.specs.MemShelf.{no_texts, text_of};
@@ -27,8 +30,7 @@ impl Model for Named {
     ghost view = { λ named. (string_bytes named.name, named.text.items) };
 }
 
-/// A shelf in memory, some of whose calls of `fetch` may be listed as failing.
-/// A clause sees a `ShelfState`.
+/// A shelf in memory, some of whose calls of `fetch` may be listed as failing. A clause sees a `ShelfState`.
 #[derive(Drop)]
 pub struct MemShelf {
     alloc: Global,
@@ -57,6 +59,13 @@ impl MemShelf {
             calls: Calls::new(alloc),
             asked: Asked::new(alloc),
         }
+    }
+
+    /// The names that it was asked for so far, in order, or `None` where memory was wanting to note one.
+    pub fn asked(&self) -> Option<&[String]>
+        ensures { option_map (λ names. map string_bytes names.now) result ≡ self.now.asked }
+    {
+        self.asked.names()
     }
 
     /// Adds a text, which takes the place of an earlier one of the same name.

@@ -1,5 +1,6 @@
 // A sink in memory, whose failing calls are listed beforehand.
-ghost use Rattle.std.specs.Prelude.{◌≡◌, ◌≤◌, ◌<◌, ◌+◌, ◌-◌, ◌⊎◌, ◌↔◌, ◌++◌, ◌∷◌, [], Some, IfOk, OnOk, OnErr, IsErr, IsTrue, Contains, length, take, vec_len, vec_capacity};
+ghost use Rattle.std.specs.Prelude.{◌≡◌, ◌≤◌, ◌<◌, ◌+◌, ◌-◌, ◌⊎◌, ◌↔◌, ◌++◌, ◌∷◌, [], Some, IfOk, OnOk, OnErr, IsErr};
+ghost use Rattle.std.specs.Prelude.{IsTrue, Contains, length, take, vec_len, vec_capacity};
 ghost use Rattle.qc_io.specs.Calls.{FailsNext, with_failing, called, faulted};
 ghost use Rattle.qc_io.specs.Device.{Rose, AppendsFront};
 ghost use Rattle.qc_io.specs.MemSink.{no_bytes, IsOverfull, fitting};
