@@ -1,230 +1,230 @@
--- The grammar of OQL: which tokens spell which tree, one case for each alternative.
-use Rattle.std.specs.Prelude.{◌≡◌, ℕ, ℤ, neg_ℤ, Bool, true, false, List, [], ◌∷◌, ◌++◌, Option, Some, None}
-use Rattle.qc_grammar.specs.declared.placed.Placed.{Placed}
-use Rattle.qc_grammar.specs.Tokens as placed
-use Rattle.qc_grammar.specs.Tokens.{Of, Is, sees_any}
+-- The grammar of OQL: from which token up to before which one a tree is spelled, one case for each alternative.
+use Rattle.std.specs.Prelude.{◌≡◌, ◌≢◌, ℕ, suc, ℤ, neg_ℤ, true, false, IsTrue, List, [], ◌∷◌, ◌++◌, length, map}
+use Rattle.std.specs.Prelude.{Option, Some, None, slice_get}
 use Rattle.qc_lex.specs.declared.token.Lexeme.{Lexeme}
+use Rattle.qc_oql_tree.specs.declared.tree.Direction.TheVariants.{Asc, Desc}
+use Rattle.qc_oql_tree.specs.declared.tree.Filter.{Filter}
+use Rattle.qc_oql_tree.specs.declared.tree.Key.{Key}
+use Rattle.qc_oql_tree.specs.declared.tree.Named.{Named}
 use Rattle.qc_oql_tree.specs.declared.tree.Oql.{Oql}
 use Rattle.qc_oql_tree.specs.declared.tree.Oql.TheVariants as tree
-use Rattle.qc_oql_tree.specs.declared.tree.Named.{Named}
-use Rattle.qc_oql_tree.specs.declared.tree.Select.{Select}
-use Rattle.qc_oql_tree.specs.declared.tree.Filter.{Filter}
-use Rattle.qc_oql_tree.specs.declared.tree.Order.{Order}
-use Rattle.qc_oql_tree.specs.declared.tree.Key.{Key}
-use Rattle.qc_oql_tree.specs.declared.tree.Query as queries
-use Rattle.qc_oql_tree.specs.declared.tree.Unary.TheVariants as unary
+use Rattle.qc_oql_tree.specs.declared.tree.Order as orders
 use Rattle.qc_oql_tree.specs.declared.tree.Quantifier.TheVariants as quantifier
-use Rattle.qc_oql_tree.specs.declared.tree.Direction.{Direction}
-use Rattle.qc_oql_tree.specs.declared.tree.Direction.TheVariants as direction
-use Rattle.qc_oql_tree.specs.Kinds.{NAME, DEFINE, AS, SELECT, DISTINCT, FROM, WHERE, ORDER, BY, IN, IF, THEN, ELSE, EXISTS, FOR, ALL, OR, AND, NOT, LIKE, STRUCT, BAG, MATCH, LEFT, RIGHT, NONZERO, TEXT, OPEN, CLOSE, COMMA, DOT, COLON, SEMICOLON, MINUS, TIMES, WHOLES, CONSTANTS, SETS, SUMS, DIVISIONS, TESTS, DIRECTIONS, UNARIES, BINARIES, BRANDINGS, LABELS}
-use Rattle.qc_oql_tree.specs.Lexemes.{whole, content}
+use Rattle.qc_oql_tree.specs.declared.tree.Query as queries
+use Rattle.qc_oql_tree.specs.declared.tree.Select.{Select}
+use Rattle.qc_oql_tree.specs.Kinds.{NAME, DEFINE, AS, SELECT, DISTINCT, FROM, WHERE, ORDER, BY, IN, ASC, DESC, IF, THEN}
+use Rattle.qc_oql_tree.specs.Kinds.{ELSE, EXISTS, FOR, ALL, OR, AND, NOT, LIKE, STRUCT, BAG, MATCH, LEFT, RIGHT}
+use Rattle.qc_oql_tree.specs.Kinds.{NONZERO, TEXT, OPEN, CLOSE, COMMA, DOT, COLON, SEMICOLON, MINUS, TIMES, WHOLES}
+use Rattle.qc_oql_tree.specs.Kinds.{CONSTANTS, SETS, SUMS, DIVISIONS, TESTS, UNARIES, BINARIES, BRANDINGS, LABELS}
+use Rattle.qc_oql_tree.specs.Kinds.{among}
+use Rattle.qc_oql_tree.specs.Lexemes.{kind, whole, content, lexeme_at}
+use Rattle.qc_oql_tree.specs.Operators.{constant_of, unary_of, binary_of, division_of, branding_of}
 use Rattle.qc_oql_tree.specs.Trees.{named, select, filter, order, key}
-use Rattle.qc_oql_tree.specs.Operators.{constant_of, unary_of, binary_of, division_of, branding_of, direction_of}
 
--- a token in its place
-abbrev pub Token : Type 0
-Token = Placed Lexeme
+-- the token at this place is of the kind
+abbrev pub Is : List Lexeme → ℕ → ℕ → Type 0
+Is ts i k = slice_get (map kind ts) i ≡ Some k
 
-abbrev pub Tokens : Type 0
-Tokens = placed.Tokens Lexeme
+-- it is of one of the kinds
+abbrev pub Of : List Lexeme → ℕ → List ℕ → Type 0
+Of ts i ks = (k : ℕ) × Is ts i k × IsTrue (among k ks)
+
+-- it is there and not of the kind, or not there
+abbrev pub IsNot : List Lexeme → ℕ → ℕ → Type 0
+IsNot ts i k = slice_get (map kind ts) i ≢ Some k
+
+-- its kind
+abbrev pub kind_at : List Lexeme → ℕ → ℕ
+kind_at ts i = kind (lexeme_at ts i)
+
+-- its text
+abbrev pub text_at : List Lexeme → ℕ → List ℕ
+text_at ts i = (lexeme_at ts i).piece
 
 mutual
   -- expr = "select" selection | q
-  pub data Expr : Tokens → Oql → Type 0 where
-    selected : {s : Token} {u : Tokens} {x : Select} → Is SELECT s → Selection u x → Expr (s ∷ u) (tree.Select s.at x)
-    value : {u : Tokens} {x : Oql} → Q u x → Expr u x
+  pub data Expr (ts : List Lexeme) : ℕ → ℕ → Oql → Type 0 where
+    select : {i j : ℕ} {x : Select} → Is ts i SELECT → Selection ts (suc i) j x → Expr ts i j (tree.Select i x)
+    value : {i j : ℕ} {x : Oql} → Q ts i j x → Expr ts i j x
 
-  -- selection = projection sources [ "where" q ] [ "order" "by" keys ]
-  pub data Selection : Tokens → Select → Type 0 where
-    selection : {u v w z : Tokens} {p : Bool × Oql} {bs : List Named} {f : Option Filter} {o : Option Order} → Projection u p → Sources v bs → Filtered w f → Ordered z o
-        → Selection (u ++ (v ++ (w ++ z))) (select p.0 p.1 bs f o)
-
-  -- projection = "distinct" q | q, which does not begin with "distinct"
-  pub data Projection : Tokens → Bool × Oql → Type 0 where
-    distinct : {d : Token} {u : Tokens} {x : Oql} → Is DISTINCT d → Q u x → Projection (d ∷ u) (true, x)
-    all : {u : Tokens} {x : Oql} → sees_any (DISTINCT ∷ []) u ≡ false → Q u x → Projection u (false, x)
+  -- selection = [ "distinct" ] q sources filter order; a q without "distinct" doesn't begin with that word
+  pub data Selection (ts : List Lexeme) : ℕ → ℕ → Select → Type 0 where
+    distinct : {i j k l m : ℕ} {x : Oql} {bs : List Named} {f : Option Filter} {o : Option orders.Order}
+        → Is ts i DISTINCT → Q ts (suc i) j x → Sources ts j k bs → Filtered ts k l f → Ordered ts l m o
+        → Selection ts i m (select true x bs f o)
+    all : {i j k l m : ℕ} {x : Oql} {bs : List Named} {f : Option Filter} {o : Option orders.Order}
+        → IsNot ts i DISTINCT → Q ts i j x → Sources ts j k bs → Filtered ts k l f → Ordered ts l m o
+        → Selection ts i m (select false x bs f o)
 
   -- sources = "from" bind { "," bind }
-  pub data Sources : Tokens → List Named → Type 0 where
-    sources : {f : Token} {u : Tokens} {bs : List Named} → Is FROM f → Binds u bs → Sources (f ∷ u) bs
-
-  pub data Binds : Tokens → List Named → Type 0 where
-    last_bind : {u : Tokens} {b : Named} → Bind u b → Binds u (b ∷ [])
-    next_bind : {c : Token} {u v : Tokens} {b : Named} {bs : List Named} → Bind u b → Is COMMA c → Binds v bs → Binds (u ++ c ∷ v) (b ∷ bs)
+  pub data Sources (ts : List Lexeme) : ℕ → ℕ → List Named → Type 0 where
+    first_source : {i j : ℕ} {b : Named} → Is ts i FROM → Bind ts (suc i) j b → Sources ts i j (b ∷ [])
+    next_source : {i j k : ℕ} {bs : List Named} {b : Named} → Sources ts i j bs → Is ts j COMMA → Bind ts (suc j) k b
+        → Sources ts i k (bs ++ b ∷ [])
 
   -- bind = NAME "in" q
-  pub data Bind : Tokens → Named → Type 0 where
-    bind : {n i : Token} {u : Tokens} {x : Oql} → Is NAME n → Is IN i → Q u x → Bind (n ∷ i ∷ u) (named n.at n.token.piece x)
+  pub data Bind (ts : List Lexeme) : ℕ → ℕ → Named → Type 0 where
+    bind : {i j : ℕ} {x : Oql} → Is ts i NAME → Is ts (suc i) IN → Q ts (suc (suc i)) j x
+        → Bind ts i j (named i (text_at ts i) x)
 
-  pub data Filtered : Tokens → Option Filter → Type 0 where
-    filtered : {w : Token} {u : Tokens} {x : Oql} → Is WHERE w → Q u x → Filtered (w ∷ u) (Some (filter w.at x))
-    unfiltered : Filtered [] None
+  -- filter = [ "where" q ]
+  pub data Filtered (ts : List Lexeme) : ℕ → ℕ → Option Filter → Type 0 where
+    filtered : {i j : ℕ} {x : Oql} → Is ts i WHERE → Q ts (suc i) j x → Filtered ts i j (Some (filter i x))
+    unfiltered : {i : ℕ} → Filtered ts i i None
 
-  pub data Ordered : Tokens → Option Order → Type 0 where
-    ordered : {o b : Token} {u : Tokens} {ks : List Key} → Is ORDER o → Is BY b → Keys u ks → Ordered (o ∷ b ∷ u) (Some (order o.at ks))
-    unordered : Ordered [] None
+  -- order = [ "order" "by" key { "," key } ]
+  pub data Ordered (ts : List Lexeme) : ℕ → ℕ → Option orders.Order → Type 0 where
+    ordered : {i j : ℕ} {ks : List Key} → Is ts i ORDER → Is ts (suc i) BY → Keys ts (suc (suc i)) j ks
+        → Ordered ts i j (Some (order i ks))
+    unordered : {i : ℕ} → Ordered ts i i None
 
-  -- keys = key { "," key }
-  pub data Keys : Tokens → List Key → Type 0 where
-    last_key : {u : Tokens} {k : Key} → SortKey u k → Keys u (k ∷ [])
-    next_key : {c : Token} {u v : Tokens} {k : Key} {ks : List Key} → SortKey u k → Is COMMA c → Keys v ks → Keys (u ++ c ∷ v) (k ∷ ks)
+  pub data Keys (ts : List Lexeme) : ℕ → ℕ → List Key → Type 0 where
+    first_key : {i j : ℕ} {k : Key} → SortKey ts i j k → Keys ts i j (k ∷ [])
+    next_key : {i j l : ℕ} {ks : List Key} {k : Key} → Keys ts i j ks → Is ts j COMMA → SortKey ts (suc j) l k
+        → Keys ts i l (ks ++ k ∷ [])
 
   -- key = q [ "asc" | "desc" ]
-  pub data SortKey : Tokens → Key → Type 0 where
-    sort_key : {u v : Tokens} {x : Oql} {d : Direction} → Q u x → Directed v d → SortKey (u ++ v) (key x d)
+  pub data SortKey (ts : List Lexeme) : ℕ → ℕ → Key → Type 0 where
+    ascending : {i j : ℕ} {x : Oql} → Q ts i j x → Is ts j ASC → SortKey ts i (suc j) (key x Asc)
+    descending : {i j : ℕ} {x : Oql} → Q ts i j x → Is ts j DESC → SortKey ts i (suc j) (key x Desc)
+    undirected : {i j : ℕ} {x : Oql} → Q ts i j x → SortKey ts i j (key x Asc)
 
-  pub data Directed : Tokens → Direction → Type 0 where
-    directed : {t : Token} → Of DIRECTIONS t → Directed (t ∷ []) (direction_of t.kind)
-    undirected : Directed [] direction.Asc
+  -- q = "if" q "then" q "else" q | "exists" bind ":" q | "for" "all" bind ":" q | or
+  pub data Q (ts : List Lexeme) : ℕ → ℕ → Oql → Type 0 where
+    if_else : {i j k l : ℕ} {x y z : Oql} → Is ts i IF → Q ts (suc i) j x → Is ts j THEN → Q ts (suc j) k y
+        → Is ts k ELSE → Q ts (suc k) l z → Q ts i l (tree.If i x y z)
+    exists : {i j k : ℕ} {b : Named} {x : Oql} → Is ts i EXISTS → Bind ts (suc i) j b → Is ts j COLON → Q ts (suc j) k x
+        → Q ts i k (tree.Quantified i quantifier.Exists b x)
+    for_all : {i j k : ℕ} {b : Named} {x : Oql} → Is ts i FOR → Is ts (suc i) ALL → Bind ts (suc (suc i)) j b
+        → Is ts j COLON → Q ts (suc j) k x → Q ts i k (tree.Quantified i quantifier.ForAll b x)
+    simple : {i j : ℕ} {x : Oql} → Or ts i j x → Q ts i j x
 
-  -- q = "if" q branches | "exists" bind ":" q | "for" "all" bind ":" q | or
-  pub data Q : Tokens → Oql → Type 0 where
-    if_else : {i : Token} {u v : Tokens} {x : Oql} {b : Oql × Oql} → Is IF i → Q u x → Branches v b → Q (i ∷ (u ++ v)) (tree.If i.at x b.0 b.1)
-    exists : {e c : Token} {u v : Tokens} {b : Named} {x : Oql} → Is EXISTS e → Bind u b → Is COLON c → Q v x → Q (e ∷ (u ++ c ∷ v)) (tree.Quantified e.at quantifier.Exists b x)
-    for_all : {f a c : Token} {u v : Tokens} {b : Named} {x : Oql} → Is FOR f → Is ALL a → Bind u b → Is COLON c → Q v x → Q (f ∷ a ∷ (u ++ c ∷ v)) (tree.Quantified f.at quantifier.ForAll b x)
-    simple : {u : Tokens} {x : Oql} → Or u x → Q u x
-
-  -- branches = "then" q "else" q
-  pub data Branches : Tokens → Oql × Oql → Type 0 where
-    branches : {t e : Token} {u v : Tokens} {x y : Oql} → Is THEN t → Q u x → Is ELSE e → Q v y → Branches (t ∷ (u ++ e ∷ v)) (x, y)
-
-  -- or = and { "or" and }, behind the tree so far, so that operators of one level group to the left
-  pub data Or : Tokens → Oql → Type 0 where
-    or : {u v : Tokens} {x y : Oql} → And u x → Ors x v y → Or (u ++ v) y
-
-  pub data Ors : Oql → Tokens → Oql → Type 0 where
-    or_more : {o : Token} {u v : Tokens} {x y z : Oql} → Is OR o → And u y → Ors (tree.Binary o.at (binary_of o.kind) x y) v z → Ors x (o ∷ (u ++ v)) z
-    or_end : {x : Oql} → Ors x [] x
+  -- or = and { "or" and }: operators of one level group to the left
+  pub data Or (ts : List Lexeme) : ℕ → ℕ → Oql → Type 0 where
+    or : {i j k : ℕ} {x y : Oql} → Or ts i j x → Is ts j OR → And ts (suc j) k y
+        → Or ts i k (tree.Binary j (binary_of (kind_at ts j)) x y)
+    one_and : {i j : ℕ} {x : Oql} → And ts i j x → Or ts i j x
 
   -- and = not { "and" not }
-  pub data And : Tokens → Oql → Type 0 where
-    and : {u v : Tokens} {x y : Oql} → Not u x → Ands x v y → And (u ++ v) y
-
-  pub data Ands : Oql → Tokens → Oql → Type 0 where
-    and_more : {o : Token} {u v : Tokens} {x y z : Oql} → Is AND o → Not u y → Ands (tree.Binary o.at (binary_of o.kind) x y) v z → Ands x (o ∷ (u ++ v)) z
-    and_end : {x : Oql} → Ands x [] x
+  pub data And (ts : List Lexeme) : ℕ → ℕ → Oql → Type 0 where
+    and : {i j k : ℕ} {x y : Oql} → And ts i j x → Is ts j AND → Not ts (suc j) k y
+        → And ts i k (tree.Binary j (binary_of (kind_at ts j)) x y)
+    one_not : {i j : ℕ} {x : Oql} → Not ts i j x → And ts i j x
 
   -- not = "not" not | rel
-  pub data Not : Tokens → Oql → Type 0 where
-    not : {o : Token} {u : Tokens} {x : Oql} → Is NOT o → Not u x → Not (o ∷ u) (tree.Unary o.at unary.Not x)
-    test : {u : Tokens} {x : Oql} → Rel u x → Not u x
+  pub data Not (ts : List Lexeme) : ℕ → ℕ → Oql → Type 0 where
+    not : {i j : ℕ} {x : Oql} → Is ts i NOT → Not ts (suc i) j x → Not ts i j (tree.Unary i (unary_of (kind_at ts i)) x)
+    one_rel : {i j : ℕ} {x : Oql} → Rel ts i j x → Not ts i j x
 
   -- rel = sets [ ( "=" | "!=" | "<" | "<=" | ">" | ">=" | "in" ) sets | "like" TEXT ]
-  pub data Rel : Tokens → Oql → Type 0 where
-    rel : {u v : Tokens} {x y : Oql} → Sets u x → Tested x v y → Rel (u ++ v) y
-
-  pub data Tested : Oql → Tokens → Oql → Type 0 where
-    compared : {o : Token} {u : Tokens} {x y : Oql} → Of TESTS o → Sets u y → Tested x (o ∷ u) (tree.Binary o.at (binary_of o.kind) x y)
-    like : {l t : Token} {x : Oql} → Is LIKE l → Is TEXT t → Tested x (l ∷ t ∷ []) (tree.Like l.at x (content t.token))
-    plain : {x : Oql} → Tested x [] x
+  pub data Rel (ts : List Lexeme) : ℕ → ℕ → Oql → Type 0 where
+    compared : {i j k : ℕ} {x y : Oql} → Sets ts i j x → Of ts j TESTS → Sets ts (suc j) k y
+        → Rel ts i k (tree.Binary j (binary_of (kind_at ts j)) x y)
+    like : {i j : ℕ} {x : Oql} → Sets ts i j x → Is ts j LIKE → Is ts (suc j) TEXT
+        → Rel ts i (suc (suc j)) (tree.Like j x (content (lexeme_at ts (suc j))))
+    one_sets : {i j : ℕ} {x : Oql} → Sets ts i j x → Rel ts i j x
 
   -- sets = sum { ( "union" | "except" | "intersect" ) sum }
-  pub data Sets : Tokens → Oql → Type 0 where
-    sets : {u v : Tokens} {x y : Oql} → Sum u x → MoreSets x v y → Sets (u ++ v) y
-
-  pub data MoreSets : Oql → Tokens → Oql → Type 0 where
-    set_more : {o : Token} {u v : Tokens} {x y z : Oql} → Of SETS o → Sum u y → MoreSets (tree.Binary o.at (binary_of o.kind) x y) v z → MoreSets x (o ∷ (u ++ v)) z
-    set_end : {x : Oql} → MoreSets x [] x
+  pub data Sets (ts : List Lexeme) : ℕ → ℕ → Oql → Type 0 where
+    set : {i j k : ℕ} {x y : Oql} → Sets ts i j x → Of ts j SETS → Sum ts (suc j) k y
+        → Sets ts i k (tree.Binary j (binary_of (kind_at ts j)) x y)
+    one_sum : {i j : ℕ} {x : Oql} → Sum ts i j x → Sets ts i j x
 
   -- sum = product { ( "+" | "-" | "||" ) product }
-  pub data Sum : Tokens → Oql → Type 0 where
-    sum : {u v : Tokens} {x y : Oql} → Product u x → Summands x v y → Sum (u ++ v) y
-
-  pub data Summands : Oql → Tokens → Oql → Type 0 where
-    sum_more : {o : Token} {u v : Tokens} {x y z : Oql} → Of SUMS o → Product u y → Summands (tree.Binary o.at (binary_of o.kind) x y) v z → Summands x (o ∷ (u ++ v)) z
-    sum_end : {x : Oql} → Summands x [] x
+  pub data Sum (ts : List Lexeme) : ℕ → ℕ → Oql → Type 0 where
+    sum : {i j k : ℕ} {x y : Oql} → Sum ts i j x → Of ts j SUMS → Product ts (suc j) k y
+        → Sum ts i k (tree.Binary j (binary_of (kind_at ts j)) x y)
+    one_product : {i j : ℕ} {x : Oql} → Product ts i j x → Sum ts i j x
 
   -- product = neg { "*" neg | ( "/" | "mod" ) divisor }
-  pub data Product : Tokens → Oql → Type 0 where
-    product : {u v : Tokens} {x y : Oql} → Neg u x → Factors x v y → Product (u ++ v) y
-
-  pub data Factors : Oql → Tokens → Oql → Type 0 where
-    times : {o : Token} {u v : Tokens} {x y z : Oql} → Is TIMES o → Neg u y → Factors (tree.Binary o.at (binary_of o.kind) x y) v z → Factors x (o ∷ (u ++ v)) z
-    divided : {o : Token} {u v : Tokens} {k : ℤ} {x z : Oql} → Of DIVISIONS o → Divisor u k → Factors (tree.Divide o.at (division_of o.kind) x k) v z → Factors x (o ∷ (u ++ v)) z
-    product_end : {x : Oql} → Factors x [] x
+  pub data Product (ts : List Lexeme) : ℕ → ℕ → Oql → Type 0 where
+    times : {i j k : ℕ} {x y : Oql} → Product ts i j x → Is ts j TIMES → Neg ts (suc j) k y
+        → Product ts i k (tree.Binary j (binary_of (kind_at ts j)) x y)
+    divided : {i j k : ℕ} {x : Oql} {d : ℤ} → Product ts i j x → Of ts j DIVISIONS → Divisor ts (suc j) k d
+        → Product ts i k (tree.Divide j (division_of (kind_at ts j)) x d)
+    one_neg : {i j : ℕ} {x : Oql} → Neg ts i j x → Product ts i j x
 
   -- divisor = [ "-" ] NONZERO
-  pub data Divisor : Tokens → ℤ → Type 0 where
-    negative : {m n : Token} → Is MINUS m → Is NONZERO n → Divisor (m ∷ n ∷ []) (neg_ℤ (whole n.token))
-    positive : {n : Token} → Is NONZERO n → Divisor (n ∷ []) (whole n.token)
+  pub data Divisor (ts : List Lexeme) : ℕ → ℕ → ℤ → Type 0 where
+    negative : {i : ℕ} → Is ts i MINUS → Is ts (suc i) NONZERO
+        → Divisor ts i (suc (suc i)) (neg_ℤ (whole (lexeme_at ts (suc i))))
+    positive : {i : ℕ} → Is ts i NONZERO → Divisor ts i (suc i) (whole (lexeme_at ts i))
 
   -- neg = "-" neg | path
-  pub data Neg : Tokens → Oql → Type 0 where
-    neg : {o : Token} {u : Tokens} {x : Oql} → Is MINUS o → Neg u x → Neg (o ∷ u) (tree.Unary o.at unary.Neg x)
-    unsigned : {u : Tokens} {x : Oql} → Path u x → Neg u x
+  pub data Neg (ts : List Lexeme) : ℕ → ℕ → Oql → Type 0 where
+    neg : {i j : ℕ} {x : Oql} → Is ts i MINUS → Neg ts (suc i) j x → Neg ts i j (tree.Unary i (unary_of (kind_at ts i)) x)
+    one_path : {i j : ℕ} {x : Oql} → Path ts i j x → Neg ts i j x
 
   -- path = atom { "." LABEL }
-  pub data Path : Tokens → Oql → Type 0 where
-    path : {u v : Tokens} {x y : Oql} → Atom u x → Dots x v y → Path (u ++ v) y
+  pub data Path (ts : List Lexeme) : ℕ → ℕ → Oql → Type 0 where
+    dot : {i j : ℕ} {x : Oql} → Path ts i j x → Is ts j DOT → Of ts (suc j) LABELS
+        → Path ts i (suc (suc j)) (tree.Dot (suc j) x (text_at ts (suc j)))
+    one_atom : {i j : ℕ} {x : Oql} → Atom ts i j x → Path ts i j x
 
-  pub data Dots : Oql → Tokens → Oql → Type 0 where
-    dot : {d l : Token} {v : Tokens} {x z : Oql} → Is DOT d → Of LABELS l → Dots (tree.Dot l.at x l.token.piece) v z → Dots x (d ∷ l ∷ v) z
-    path_end : {x : Oql} → Dots x [] x
+  -- atom = WHOLE | TEXT | "true" | "false" | "nil" | NAME | "(" expr ")" | "struct" "(" [ fields ] ")"
+  -- | "bag" "(" [ members ] ")" | unary "(" expr ")" | binary "(" q "," q ")" | ( "cast" | "brand" ) "(" NAME "," expr ")"
+  -- | "match" "(" q "," "left" case "," "right" case ")"
+  pub data Atom (ts : List Lexeme) : ℕ → ℕ → Oql → Type 0 where
+    number : {i : ℕ} → Of ts i WHOLES → Atom ts i (suc i) (tree.Whole i (whole (lexeme_at ts i)))
+    text : {i : ℕ} → Is ts i TEXT → Atom ts i (suc i) (tree.Text i (content (lexeme_at ts i)))
+    constant : {i : ℕ} → Of ts i CONSTANTS → Atom ts i (suc i) (tree.Constant i (constant_of (kind_at ts i)))
+    name : {i : ℕ} → Is ts i NAME → Atom ts i (suc i) (tree.Name i (text_at ts i))
+    parens : {i j : ℕ} {x : Oql} → Is ts i OPEN → Expr ts (suc i) j x → Is ts j CLOSE → Atom ts i (suc j) x
+    no_struct : {i : ℕ} → Is ts i STRUCT → Is ts (suc i) OPEN → Is ts (suc (suc i)) CLOSE
+        → Atom ts i (suc (suc (suc i))) (tree.Struct i [])
+    struct : {i j : ℕ} {fs : List Named} → Is ts i STRUCT → Is ts (suc i) OPEN → Fields ts (suc (suc i)) j fs
+        → Is ts j CLOSE → Atom ts i (suc j) (tree.Struct i fs)
+    no_bag : {i : ℕ} → Is ts i BAG → Is ts (suc i) OPEN → Is ts (suc (suc i)) CLOSE
+        → Atom ts i (suc (suc (suc i))) (tree.Bag i [])
+    bag : {i j : ℕ} {xs : List Oql} → Is ts i BAG → Is ts (suc i) OPEN → Members ts (suc (suc i)) j xs → Is ts j CLOSE
+        → Atom ts i (suc j) (tree.Bag i xs)
+    call : {i j : ℕ} {x : Oql} → Of ts i UNARIES → Is ts (suc i) OPEN → Expr ts (suc (suc i)) j x → Is ts j CLOSE
+        → Atom ts i (suc j) (tree.Unary i (unary_of (kind_at ts i)) x)
+    call_two : {i j k : ℕ} {x y : Oql} → Of ts i BINARIES → Is ts (suc i) OPEN → Q ts (suc (suc i)) j x → Is ts j COMMA
+        → Q ts (suc j) k y → Is ts k CLOSE → Atom ts i (suc k) (tree.Binary i (binary_of (kind_at ts i)) x y)
+    brand : {i j : ℕ} {x : Oql} → Of ts i BRANDINGS → Is ts (suc i) OPEN → Is ts (suc (suc i)) NAME
+        → Is ts (suc (suc (suc i))) COMMA → Expr ts (suc (suc (suc (suc i)))) j x → Is ts j CLOSE
+        → Atom ts i (suc j) (tree.Brand i (branding_of (kind_at ts i)) (text_at ts (suc (suc i))) x)
+    match : {i j k l : ℕ} {x : Oql} {a b : Named} → Is ts i MATCH → Is ts (suc i) OPEN → Q ts (suc (suc i)) j x
+        → Is ts j COMMA → Case ts LEFT (suc j) k a → Is ts k COMMA → Case ts RIGHT (suc k) l b → Is ts l CLOSE
+        → Atom ts i (suc l) (tree.Match i x a b)
 
-  -- atom = WHOLE | TEXT | "true" | "false" | "nil" | NAME | "(" expr ")" | "struct" "(" fields | "bag" "(" members | unary "(" expr ")"
-  -- | binary "(" q "," q ")" | ( "cast" | "brand" ) "(" NAME "," expr ")" | "match" "(" q "," cases ")"
-  pub data Atom : Tokens → Oql → Type 0 where
-    number : {t : Token} → Of WHOLES t → Atom (t ∷ []) (tree.Whole t.at (whole t.token))
-    text : {t : Token} → Is TEXT t → Atom (t ∷ []) (tree.Text t.at (content t.token))
-    constant : {t : Token} → Of CONSTANTS t → Atom (t ∷ []) (tree.Constant t.at (constant_of t.kind))
-    name : {t : Token} → Is NAME t → Atom (t ∷ []) (tree.Name t.at t.token.piece)
-    parens : {o c : Token} {u : Tokens} {x : Oql} → Is OPEN o → Expr u x → Is CLOSE c → Atom (o ∷ (u ++ c ∷ [])) x
-    struct : {s o : Token} {u : Tokens} {fs : List Named} → Is STRUCT s → Is OPEN o → Fields u fs → Atom (s ∷ o ∷ u) (tree.Struct s.at fs)
-    bag : {b o : Token} {u : Tokens} {xs : List Oql} → Is BAG b → Is OPEN o → Members u xs → Atom (b ∷ o ∷ u) (tree.Bag b.at xs)
-    call : {f o c : Token} {u : Tokens} {x : Oql} → Of UNARIES f → Is OPEN o → Expr u x → Is CLOSE c → Atom (f ∷ o ∷ (u ++ c ∷ [])) (tree.Unary f.at (unary_of f.kind) x)
-    call_two : {f o m c : Token} {u v : Tokens} {x y : Oql} → Of BINARIES f → Is OPEN o → Q u x → Is COMMA m → Q v y → Is CLOSE c
-        → Atom (f ∷ o ∷ (u ++ m ∷ (v ++ c ∷ []))) (tree.Binary f.at (binary_of f.kind) x y)
-    brand : {f o n m c : Token} {u : Tokens} {x : Oql} → Of BRANDINGS f → Is OPEN o → Is NAME n → Is COMMA m → Expr u x → Is CLOSE c
-        → Atom (f ∷ o ∷ n ∷ m ∷ (u ++ c ∷ [])) (tree.Brand f.at (branding_of f.kind) n.token.piece x)
-    match : {f o m c : Token} {u v : Tokens} {x : Oql} {b : Named × Named} → Is MATCH f → Is OPEN o → Q u x → Is COMMA m → Cases v b → Is CLOSE c
-        → Atom (f ∷ o ∷ (u ++ m ∷ (v ++ c ∷ []))) (tree.Match f.at x b.0 b.1)
-
-  -- fields = [ field { "," field } ] ")"
-  pub data Fields : Tokens → List Named → Type 0 where
-    no_fields : {c : Token} → Is CLOSE c → Fields (c ∷ []) []
-    fields : {c : Token} {u : Tokens} {fs : List Named} → SomeFields u fs → Is CLOSE c → Fields (u ++ c ∷ []) fs
-
-  pub data SomeFields : Tokens → List Named → Type 0 where
-    last_field : {u : Tokens} {f : Named} → Field u f → SomeFields u (f ∷ [])
-    next_field : {c : Token} {u v : Tokens} {f : Named} {fs : List Named} → Field u f → Is COMMA c → SomeFields v fs → SomeFields (u ++ c ∷ v) (f ∷ fs)
+  -- fields = field { "," field }
+  pub data Fields (ts : List Lexeme) : ℕ → ℕ → List Named → Type 0 where
+    first_field : {i j : ℕ} {f : Named} → Field ts i j f → Fields ts i j (f ∷ [])
+    next_field : {i j k : ℕ} {fs : List Named} {f : Named} → Fields ts i j fs → Is ts j COMMA → Field ts (suc j) k f
+        → Fields ts i k (fs ++ f ∷ [])
 
   -- field = LABEL ":" q
-  pub data Field : Tokens → Named → Type 0 where
-    field : {l c : Token} {u : Tokens} {x : Oql} → Of LABELS l → Is COLON c → Q u x → Field (l ∷ c ∷ u) (named l.at l.token.piece x)
+  pub data Field (ts : List Lexeme) : ℕ → ℕ → Named → Type 0 where
+    field : {i j : ℕ} {x : Oql} → Of ts i LABELS → Is ts (suc i) COLON → Q ts (suc (suc i)) j x
+        → Field ts i j (named i (text_at ts i) x)
 
-  -- members = [ q { "," q } ] ")"
-  pub data Members : Tokens → List Oql → Type 0 where
-    no_members : {c : Token} → Is CLOSE c → Members (c ∷ []) []
-    members : {c : Token} {u : Tokens} {xs : List Oql} → SomeMembers u xs → Is CLOSE c → Members (u ++ c ∷ []) xs
+  -- members = q { "," q }
+  pub data Members (ts : List Lexeme) : ℕ → ℕ → List Oql → Type 0 where
+    first_member : {i j : ℕ} {x : Oql} → Q ts i j x → Members ts i j (x ∷ [])
+    next_member : {i j k : ℕ} {xs : List Oql} {x : Oql} → Members ts i j xs → Is ts j COMMA → Q ts (suc j) k x
+        → Members ts i k (xs ++ x ∷ [])
 
-  pub data SomeMembers : Tokens → List Oql → Type 0 where
-    last_member : {u : Tokens} {x : Oql} → Q u x → SomeMembers u (x ∷ [])
-    next_member : {c : Token} {u v : Tokens} {x : Oql} {xs : List Oql} → Q u x → Is COMMA c → SomeMembers v xs → SomeMembers (u ++ c ∷ v) (x ∷ xs)
+  -- case = ( "left" | "right" ) NAME ":" q
+  pub data Case (ts : List Lexeme) (side : ℕ) : ℕ → ℕ → Named → Type 0 where
+    case : {i j : ℕ} {x : Oql} → Is ts i side → Is ts (suc i) NAME → Is ts (suc (suc i)) COLON
+        → Q ts (suc (suc (suc i))) j x → Case ts side i j (named (suc i) (text_at ts (suc i)) x)
 
-  -- cases = "left" NAME ":" q "," "right" NAME ":" q
-  pub data Cases : Tokens → Named × Named → Type 0 where
-    cases : {m : Token} {u v : Tokens} {x y : Named} → Case LEFT u x → Is COMMA m → Case RIGHT v y → Cases (u ++ m ∷ v) (x, y)
+-- defines = { "define" NAME "as" expr ";" }
+pub data Defines (ts : List Lexeme) : ℕ → List Named → Type 0 where
+  no_define : Defines ts 0 []
+  next_define : {i j : ℕ} {ds : List Named} {x : Oql} → Defines ts i ds → Is ts i DEFINE → Is ts (suc i) NAME
+      → Is ts (suc (suc i)) AS → Expr ts (suc (suc (suc i))) j x → Is ts j SEMICOLON
+      → Defines ts (suc j) (ds ++ named (suc i) (text_at ts (suc i)) x ∷ [])
 
-  pub data Case : ℕ → Tokens → Named → Type 0 where
-    case : {k : ℕ} {s n c : Token} {u : Tokens} {x : Oql} → Is k s → Is NAME n → Is COLON c → Q u x → Case k (s ∷ n ∷ c ∷ u) (named n.at n.token.piece x)
+-- defines expr [ ";" ]
+pub data Ended (ts : List Lexeme) : ℕ → queries.Query → Type 0 where
+  ended : {i j : ℕ} {ds : List Named} {x : Oql} → Defines ts i ds → Expr ts i j x → Is ts j SEMICOLON
+      → Ended ts (suc j) (record { defines = ds; body = x })
+  unended : {i j : ℕ} {ds : List Named} {x : Oql} → Defines ts i ds → Expr ts i j x
+      → Ended ts j (record { defines = ds; body = x })
 
--- define = "define" NAME "as" expr ";"
-pub data Define : Tokens → Named → Type 0 where
-  define : {d n a s : Token} {u : Tokens} {x : Oql} → Is DEFINE d → Is NAME n → Is AS a → Expr u x → Is SEMICOLON s → Define (d ∷ n ∷ a ∷ (u ++ s ∷ [])) (named n.at n.token.piece x)
-
--- defines = { define }, behind those so far
-pub data Defines : List Named → Tokens → List Named → Type 0 where
-  define_more : {u v : Tokens} {d : Named} {ds es : List Named} → Define u d → Defines (ds ++ d ∷ []) v es → Defines ds (u ++ v) es
-  define_end : {ds : List Named} → Defines ds [] ds
-
--- body = expr [ ";" ]
-pub data Ending : Oql → Tokens → Oql → Type 0 where
-  ended : {s : Token} {x : Oql} → Is SEMICOLON s → Ending x (s ∷ []) x
-  unended : {x : Oql} → Ending x [] x
-
-pub data Body : Tokens → Oql → Type 0 where
-  body : {u v : Tokens} {x y : Oql} → Expr u x → Ending x v y → Body (u ++ v) y
-
--- query = defines body
-pub data Query : Tokens → queries.Query → Type 0 where
-  query : {u v : Tokens} {ds : List Named} {x : Oql} → Defines [] u ds → Body v x → Query (u ++ v) (record { defines = ds; body = x })
+-- query: all tokens spell it
+abbrev pub Query : List Lexeme → queries.Query → Type 0
+Query ts q = Ended ts (length ts) q

@@ -1,7 +1,6 @@
 -- What the actions of the grammar do with a stack of values, behind so many tokens.
-use Rattle.std.specs.Prelude.{ℕ, ℤ, neg_ℤ, Bool, true, false, pred, if◌then◌else◌, eqb, List, [], ◌∷◌, ◌++◌, Option, Some, None, slice_get}
+use Rattle.std.specs.Prelude.{ℕ, ℤ, neg_ℤ, Bool, true, false, pred, if◌then◌else◌, eqb, List, [], ◌∷◌, ◌++◌}
 use Rattle.qc_grammar.specs.declared.symbol.Event.{Event}
-use Rattle.qc_lex.specs.declared.token.Kind.TheVariants as lexical
 use Rattle.qc_lex.specs.declared.token.Lexeme.{Lexeme}
 use Rattle.qc_oql_tree.specs.declared.tree.Direction.{Direction}
 use Rattle.qc_oql_tree.specs.declared.tree.Direction.TheVariants as direction
@@ -23,13 +22,9 @@ use Rattle.qc_oql_text.specs.inner.Values.{the_entries, the_keys, the_filter, th
 
 -- ---- the token before
 
-abbrev pub token_or : Option Lexeme → Lexeme
-token_or (Some t) = t
-token_or None = record { kind = lexical.Mark; piece = [] }
-
 -- the last of the first n tokens
 abbrev pub token : List Lexeme → ℕ → Lexeme
-token ts n = token_or (slice_get ts (pred n))
+token ts n = lexemes.lexeme_at ts (pred n)
 
 -- ---- actions that put the token before on the stack
 
