@@ -1,13 +1,12 @@
 -- Rules whose alternatives are one token each, and levels in two copies.
-use Rattle.std.proofs.Common.{◌≡◌, ℕ, zero, suc, true, eqb, ◌||◌, List, [], ◌∷◌, ◌++◌, map, slice_get, Option, Some, Bool, false, refl, sym, ap, ◌∙◌, subst}
+use Rattle.std.proofs.Common.{◌≡◌, ℕ, zero, suc, true, eqb, List, [], ◌∷◌, map, slice_get, Some, Bool, false, refl, sym, ap, subst}
 use Rattle.std.proofs.lemmas.Bool.{eqb-true, eq-eqb}
 use Rattle.std.proofs.Math.Bool.{or-true}
 use Rattle.qc_grammar.specs.declared.symbol.Symbol.{Symbol}
-use Rattle.qc_grammar.specs.declared.symbol.Symbol.TheVariants.{Token, Rule, Action}
+use Rattle.qc_grammar.specs.declared.symbol.Symbol.TheVariants.{Token, Rule}
 use Rattle.qc_grammar.specs.inner.Derivations.{Rules, Produces, alternatives}
 use Rattle.qc_grammar.specs.inner.Machine.{member}
-use Rattle.qc_grammar.proofs.Sets.{one_is}
-use Rattle.qc_grammar.proofs.Walks.{Walks, done, here, acts, goes, both, After, Closes}
+use Rattle.qc_grammar.proofs.Walks.{Walks, done, here, goes, both, Closes}
 
 abbrev pub single : ℕ → List Symbol
 single k = Token k ∷ []

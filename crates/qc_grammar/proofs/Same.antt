@@ -1,5 +1,5 @@
 -- Two languages with the same words have the same parses.
-use Rattle.std.proofs.Common.{◌≡◌, ◌<◌, ◌+◌, ℕ, List, ◌++◌, length, take, Ok, Err}
+use Rattle.std.proofs.Common.{◌+◌, List, ◌++◌, take, Ok, Err}
 use Rattle.std.specs.Prelude.{Result}
 use Rattle.qc_grammar.specs.declared.fault.SyntaxFault.{SyntaxFault}
 use Rattle.qc_grammar.specs.declared.fault.SyntaxFault.TheVariants.{BadSyntax, Memory}
