@@ -44,7 +44,7 @@ text_at ts i = (lexeme_at ts i).piece
 mutual
   -- expr = "select" selection | q
   pub data Expr (ts : List Lexeme) : ℕ → ℕ → Oql → Type 0 where
-    select : {i j : ℕ} {x : Select} → Is ts i SELECT → Selection ts (suc i) j x → Expr ts i j (tree.Select i x)
+    selected : {i j : ℕ} {x : Select} → Is ts i SELECT → Selection ts (suc i) j x → Expr ts i j (tree.Select i x)
     value : {i j : ℕ} {x : Oql} → Q ts i j x → Expr ts i j x
 
   -- selection = [ "distinct" ] q sources filter order; a q without "distinct" doesn't begin with that word
@@ -207,8 +207,8 @@ mutual
         → Members ts i k (xs ++ x ∷ [])
 
   -- case = ( "left" | "right" ) NAME ":" q
-  pub data Case (ts : List Lexeme) (side : ℕ) : ℕ → ℕ → Named → Type 0 where
-    case : {i j : ℕ} {x : Oql} → Is ts i side → Is ts (suc i) NAME → Is ts (suc (suc i)) COLON
+  pub data Case (ts : List Lexeme) : ℕ → ℕ → ℕ → Named → Type 0 where
+    case : {side i j : ℕ} {x : Oql} → Is ts i side → Is ts (suc i) NAME → Is ts (suc (suc i)) COLON
         → Q ts (suc (suc (suc i))) j x → Case ts side i j (named (suc i) (text_at ts (suc i)) x)
 
 -- defines = { "define" NAME "as" expr ";" }
