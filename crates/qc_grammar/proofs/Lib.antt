@@ -1,9 +1,12 @@
-pub mod Sets
-pub mod Facts
-pub mod Heads
-pub mod Words
+pub mod Classes
 pub mod Ending
 pub mod Exactness
-pub mod Steps
+pub mod Facts
+pub mod Heads
 pub mod Lifted
+pub mod Same
 pub mod Samples
+pub mod Sets
+pub mod Steps
+pub mod Walks
+pub mod Words

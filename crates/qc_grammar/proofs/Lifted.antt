@@ -1,6 +1,6 @@
 -- From kinds to tokens: what a derivation of the kinds says of the tokens.
-use Rattle.std.proofs.Common.{true, ◌≡◌, ◌<◌, ◌≤◌, ℕ, zero, suc, ◌+◌, List, [], ◌∷◌, ◌++◌, length, take, refl, sym, ap, ◌∙◌, subst, arith, Ok, Err}
-use Rattle.std.specs.Prelude.{map, Result}
+use Rattle.std.proofs.Common.{true, ◌≡◌, ℕ, zero, suc, ◌+◌, List, [], ◌∷◌, ◌++◌, length, take, refl, sym, ap, ◌∙◌, subst, arith, Err}
+use Rattle.std.specs.Prelude.{map}
 use Rattle.qc_grammar.specs.declared.fault.SyntaxFault.{SyntaxFault}
 use Rattle.qc_grammar.specs.declared.fault.SyntaxFault.TheVariants.{BadSyntax, Memory}
 use Rattle.qc_grammar.specs.declared.symbol.Event.{Event}

@@ -1,11 +1,11 @@
 -- Tokens for the words of a grammar: one of each kind that the grammar names is enough.
-use Rattle.std.proofs.Common.{◌≡◌, ℕ, zero, suc, Bool, true, false, ◌&&◌, eqb, List, [], ◌∷◌, ◌++◌, refl, ap, ◌∙◌, Some, None}
+use Rattle.std.proofs.Common.{◌≡◌, ℕ, zero, suc, Bool, true, false, ◌&&◌, eqb, List, [], ◌∷◌, ◌++◌, refl, ap, ◌∙◌, Some}
 use Rattle.std.specs.Prelude.{map, slice_get}
 use Rattle.std.proofs.lemmas.Bool.{eqb-true}
 use Rattle.qc_grammar.specs.declared.symbol.Symbol.{Symbol}
 use Rattle.qc_grammar.specs.declared.symbol.Symbol.TheVariants.{Token, Rule, Action}
 use Rattle.qc_grammar.specs.declared.symbol.Event.{Event}
-use Rattle.qc_grammar.specs.inner.Derivations.{Rules, alternatives, Produces, Derives, nothing, token, action, rule}
+use Rattle.qc_grammar.specs.inner.Derivations.{Rules, alternatives, Derives, nothing, token, action, rule}
 use Rattle.qc_grammar.proofs.Sets.{both}
 
 module _ {T : Type 0} (class : T → ℕ) (sample : ℕ → T) where

@@ -17,7 +17,7 @@ use qc_types::Classes;
 use std::alloc::Global;
 
 /// How an operator of two operands goes back to operators on values.
-#[derive(Clone, Copy, Debug)]
+#[derive(Clone, Copy)]
 pub enum Pairing {
     /// The operator itself.
     Plain(OnTwo),

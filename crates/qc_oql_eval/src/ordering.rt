@@ -28,7 +28,7 @@ pub(crate) struct Keyed<'a> {
 }
 
 // A kind of values that rows may be ordered by.
-#[derive(Clone, Copy, Debug)]
+#[derive(Clone, Copy)]
 enum Kind {
     Int,
     Text,

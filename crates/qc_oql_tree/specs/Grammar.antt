@@ -1,8 +1,6 @@
 -- The grammar of OQL: from which token on and up to which one a tree is spelled, one case for each alternative.
 use Rattle.std.specs.Prelude.{◌≡◌, ℕ, suc, ℤ, neg_ℤ, Bool, true, false, List, [], ◌∷◌, ◌++◌, length, map, slice_get}
 use Rattle.std.specs.Prelude.{Option, Some, None}
-use Rattle.qc_grammar.specs.inner.Machine.{member}
-use Rattle.qc_lex.specs.declared.token.Kind.TheVariants.{Mark}
 use Rattle.qc_lex.specs.declared.token.Lexeme.{Lexeme}
 use Rattle.qc_oql_tree.specs.declared.tree.Oql.{Oql}
 use Rattle.qc_oql_tree.specs.declared.tree.Oql.TheVariants as tree
@@ -16,30 +14,22 @@ use Rattle.qc_oql_tree.specs.declared.tree.Quantifier.TheVariants as quantifier
 use Rattle.qc_oql_tree.specs.declared.tree.Direction.{Direction}
 use Rattle.qc_oql_tree.specs.declared.tree.Direction.TheVariants as direction
 use Rattle.qc_oql_tree.specs.Kinds.{NAME, DEFINE, AS, SELECT, DISTINCT, FROM, WHERE, ORDER, BY, IN, ASC, DESC, IF, THEN}
-use Rattle.qc_oql_tree.specs.Kinds.{ELSE, EXISTS, FOR, ALL, OR, AND, NOT, LIKE, STRUCT, BAG, MATCH, LEFT, RIGHT, NONZERO}
-use Rattle.qc_oql_tree.specs.Kinds.{TEXT, OPEN, CLOSE, COMMA, DOT, COLON, SEMICOLON, MINUS, TIMES}
-use Rattle.qc_oql_tree.specs.Kinds.{WHOLES, CONSTANTS, SETS, SUMS, DIVISIONS, TESTS, UNARIES, BINARIES, BRANDINGS, LABELS}
-use Rattle.qc_oql_tree.specs.Lexemes.{kind, whole, content}
+use Rattle.qc_oql_tree.specs.Kinds.{ELSE, EXISTS, FOR, ALL, OR, AND, NOT, LIKE, STRUCT, BAG, MATCH, LEFT, RIGHT}
+use Rattle.qc_oql_tree.specs.Kinds.{NONZERO, TEXT, OPEN, CLOSE, COMMA, DOT, COLON, SEMICOLON, MINUS, TIMES}
+use Rattle.qc_oql_tree.specs.Kinds.{WHOLES, CONSTANTS, SETS, SUMS, DIVISIONS, TESTS, UNARIES, BINARIES, BRANDINGS}
+use Rattle.qc_oql_tree.specs.Kinds.{LABELS, among}
+use Rattle.qc_oql_tree.specs.Lexemes.{kind, whole, content, lexeme_at}
 use Rattle.qc_oql_tree.specs.Trees.{named, select, filter, order, key}
 use Rattle.qc_oql_tree.specs.Operators.{constant_of, unary_of, binary_of, division_of, branding_of}
 
--- a token, or where there is none a mark of no letter
-abbrev pub token_or : Option Lexeme → Lexeme
-token_or (Some t) = t
-token_or None = record { kind = Mark; piece = [] }
-
 module _ (tokens : List Lexeme) where
-  -- the token at a place
-  abbrev pub token : ℕ → Lexeme
-  token i = token_or (slice_get tokens i)
-
   -- the kind of the token at a place
   abbrev pub kind_at : ℕ → ℕ
-  kind_at i = kind (token i)
+  kind_at i = kind (lexeme_at tokens i)
 
   -- the text of the token at a place
   abbrev pub text_at : ℕ → List ℕ
-  text_at i = (token i).piece
+  text_at i = (lexeme_at tokens i).piece
 
   -- there is a token of this kind at the place
   abbrev pub Is : ℕ → ℕ → Type 0
@@ -47,7 +37,7 @@ module _ (tokens : List Lexeme) where
 
   -- there is a token of one of these kinds at the place
   abbrev pub Among : ℕ → List ℕ → Type 0
-  Among i ks = (k : ℕ) × Is i k × (member k ks ≡ true)
+  Among i ks = (k : ℕ) × Is i k × (among k ks ≡ true)
 
   mutual
     -- expr = "select" selection | q
@@ -74,20 +64,23 @@ module _ (tokens : List Lexeme) where
 
     -- binding = NAME "in" q
     pub data Binding : ℕ → ℕ → Named → Type 0 where
-      binding : {i j : ℕ} {x : Oql} → Is i NAME → Is (suc i) IN → Q (suc (suc i)) j x → Binding i j (named i (text_at i) x)
+      binding : {i j : ℕ} {x : Oql} → Is i NAME → Is (suc i) IN → Q (suc (suc i)) j x
+          → Binding i j (named i (text_at i) x)
 
     pub data Filtered : ℕ → ℕ → Option Filter → Type 0 where
       filtered : {i j : ℕ} {x : Oql} → Is i WHERE → Q (suc i) j x → Filtered i j (Some (filter i x))
       unfiltered : {i : ℕ} → Filtered i i None
 
     pub data Ordered : ℕ → ℕ → Option Order → Type 0 where
-      ordered : {i j : ℕ} {ks : List Key} → Is i ORDER → Is (suc i) BY → Keys (suc (suc i)) j ks → Ordered i j (Some (order i ks))
+      ordered : {i j : ℕ} {ks : List Key} → Is i ORDER → Is (suc i) BY → Keys (suc (suc i)) j ks
+          → Ordered i j (Some (order i ks))
       unordered : {i : ℕ} → Ordered i i None
 
     -- keys = key | keys "," key
     pub data Keys : ℕ → ℕ → List Key → Type 0 where
       one_key : {i j : ℕ} {k : Key} → SortKey i j k → Keys i j (k ∷ [])
-      more_keys : {i j l : ℕ} {ks : List Key} {k : Key} → Keys i j ks → Is j COMMA → SortKey (suc j) l k → Keys i l (ks ++ k ∷ [])
+      more_keys : {i j l : ℕ} {ks : List Key} {k : Key} → Keys i j ks → Is j COMMA → SortKey (suc j) l k
+          → Keys i l (ks ++ k ∷ [])
 
     -- key = q [ "asc" | "desc" ]
     pub data SortKey : ℕ → ℕ → Key → Type 0 where
@@ -100,7 +93,8 @@ module _ (tokens : List Lexeme) where
 
     -- q = "if" q "then" q "else" q | "exists" binding ":" q | "for" "all" binding ":" q | or
     pub data Q : ℕ → ℕ → Oql → Type 0 where
-      if_else : {i j k l : ℕ} {x y z : Oql} → Is i IF → Q (suc i) j x → Is j THEN → Q (suc j) k y → Is k ELSE → Q (suc k) l z
+      if_else : {i j k l : ℕ} {x y z : Oql}
+          → Is i IF → Q (suc i) j x → Is j THEN → Q (suc j) k y → Is k ELSE → Q (suc k) l z
           → Q i l (tree.If i x y z)
       exists : {i j k : ℕ} {b : Named} {x : Oql} → Is i EXISTS → Binding (suc i) j b → Is j COLON → Q (suc j) k x
           → Q i k (tree.Quantified i quantifier.Exists b x)
@@ -111,7 +105,8 @@ module _ (tokens : List Lexeme) where
 
     -- or = or "or" and | and
     pub data Or : ℕ → ℕ → Oql → Type 0 where
-      or : {i j k : ℕ} {x y : Oql} → Or i j x → Is j OR → And (suc j) k y → Or i k (tree.Binary j (binary_of (kind_at j)) x y)
+      or : {i j k : ℕ} {x y : Oql} → Or i j x → Is j OR → And (suc j) k y
+          → Or i k (tree.Binary j (binary_of (kind_at j)) x y)
       one_or : {i j : ℕ} {x : Oql} → And i j x → Or i j x
 
     -- and = and "and" not | not
@@ -130,7 +125,7 @@ module _ (tokens : List Lexeme) where
       compared : {i j k : ℕ} {x y : Oql}
           → Sets i j x → Among j TESTS → Sets (suc j) k y → Rel i k (tree.Binary j (binary_of (kind_at j)) x y)
       like : {i j : ℕ} {x : Oql} → Sets i j x → Is j LIKE → Is (suc j) TEXT
-          → Rel i (suc (suc j)) (tree.Like j x (content (token (suc j))))
+          → Rel i (suc (suc j)) (tree.Like j x (content (lexeme_at tokens (suc j))))
       untested : {i j : ℕ} {x : Oql} → Sets i j x → Rel i j x
 
     -- sets = sets ( "union" | "except" | "intersect" ) sum | sum
@@ -150,13 +145,15 @@ module _ (tokens : List Lexeme) where
       times : {i j k : ℕ} {x y : Oql}
           → Product i j x → Is j TIMES → Neg (suc j) k y → Product i k (tree.Binary j (binary_of (kind_at j)) x y)
       divided : {i j k : ℕ} {x : Oql} {n : ℤ}
-          → Product i j x → Among j DIVISIONS → Divisor (suc j) k n → Product i k (tree.Divide j (division_of (kind_at j)) x n)
+          → Product i j x → Among j DIVISIONS → Divisor (suc j) k n
+          → Product i k (tree.Divide j (division_of (kind_at j)) x n)
       one_factor : {i j : ℕ} {x : Oql} → Neg i j x → Product i j x
 
     -- divisor = [ "-" ] NONZERO
     pub data Divisor : ℕ → ℕ → ℤ → Type 0 where
-      negative : {i : ℕ} → Is i MINUS → Is (suc i) NONZERO → Divisor i (suc (suc i)) (neg_ℤ (whole (token (suc i))))
-      positive : {i : ℕ} → Is i NONZERO → Divisor i (suc i) (whole (token i))
+      negative : {i : ℕ} → Is i MINUS → Is (suc i) NONZERO
+          → Divisor i (suc (suc i)) (neg_ℤ (whole (lexeme_at tokens (suc i))))
+      positive : {i : ℕ} → Is i NONZERO → Divisor i (suc i) (whole (lexeme_at tokens i))
 
     -- neg = "-" neg | path
     pub data Neg : ℕ → ℕ → Oql → Type 0 where
@@ -169,12 +166,12 @@ module _ (tokens : List Lexeme) where
           → Path i (suc (suc j)) (tree.Dot (suc j) x (text_at (suc j)))
       one_atom : {i j : ℕ} {x : Oql} → Atom i j x → Path i j x
 
-    -- atom = WHOLE | TEXT | "true" | "false" | "nil" | NAME | "(" expr ")" | "struct" "(" fields ")" | "bag" "(" members ")"
-    -- | unary "(" expr ")" | binary "(" q "," q ")" | ( "cast" | "brand" ) "(" NAME "," expr ")"
-    -- | "match" "(" q "," "left" NAME ":" q "," "right" NAME ":" q ")"
+    -- atom = WHOLE | TEXT | "true" | "false" | "nil" | NAME | "(" expr ")" | "struct" "(" fields ")"
+    -- | "bag" "(" members ")" | unary "(" expr ")" | binary "(" q "," q ")"
+    -- | ( "cast" | "brand" ) "(" NAME "," expr ")" | "match" "(" q "," "left" NAME ":" q "," "right" NAME ":" q ")"
     pub data Atom : ℕ → ℕ → Oql → Type 0 where
-      number : {i : ℕ} → Among i WHOLES → Atom i (suc i) (tree.Whole i (whole (token i)))
-      text : {i : ℕ} → Is i TEXT → Atom i (suc i) (tree.Text i (content (token i)))
+      number : {i : ℕ} → Among i WHOLES → Atom i (suc i) (tree.Whole i (whole (lexeme_at tokens i)))
+      text : {i : ℕ} → Is i TEXT → Atom i (suc i) (tree.Text i (content (lexeme_at tokens i)))
       constant : {i : ℕ} → Among i CONSTANTS → Atom i (suc i) (tree.Constant i (constant_of (kind_at i)))
       name : {i : ℕ} → Is i NAME → Atom i (suc i) (tree.Name i (text_at i))
       parens : {i j : ℕ} {x : Oql} → Is i OPEN → Expr (suc i) j x → Is j CLOSE → Atom i (suc j) x
@@ -187,8 +184,8 @@ module _ (tokens : List Lexeme) where
       call_two : {i j k : ℕ} {x y : Oql}
           → Among i BINARIES → Is (suc i) OPEN → Q (suc (suc i)) j x → Is j COMMA → Q (suc j) k y → Is k CLOSE
           → Atom i (suc k) (tree.Binary i (binary_of (kind_at i)) x y)
-      brand : {i j : ℕ} {x : Oql} → Among i BRANDINGS → Is (suc i) OPEN → Is (suc (suc i)) NAME → Is (suc (suc (suc i))) COMMA
-          → Expr (suc (suc (suc (suc i)))) j x → Is j CLOSE
+      brand : {i j : ℕ} {x : Oql} → Among i BRANDINGS → Is (suc i) OPEN → Is (suc (suc i)) NAME
+          → Is (suc (suc (suc i))) COMMA → Expr (suc (suc (suc (suc i)))) j x → Is j CLOSE
           → Atom i (suc j) (tree.Brand i (branding_of (kind_at i)) (text_at (suc (suc i))) x)
       match : {i j k l : ℕ} {x : Oql} {left right : Named} → Is i MATCH → Is (suc i) OPEN → Q (suc (suc i)) j x
           → Is j COMMA → Case LEFT (suc j) k left → Is k COMMA → Case RIGHT (suc k) l right → Is l CLOSE
@@ -206,7 +203,8 @@ module _ (tokens : List Lexeme) where
 
     -- field = LABEL ":" q
     pub data Field : ℕ → ℕ → Named → Type 0 where
-      field : {i j : ℕ} {x : Oql} → Among i LABELS → Is (suc i) COLON → Q (suc (suc i)) j x → Field i j (named i (text_at i) x)
+      field : {i j : ℕ} {x : Oql} → Among i LABELS → Is (suc i) COLON → Q (suc (suc i)) j x
+          → Field i j (named i (text_at i) x)
 
     -- members = [ q { "," q } ]
     pub data Members : ℕ → ℕ → List Oql → Type 0 where

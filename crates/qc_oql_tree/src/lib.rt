@@ -6,6 +6,7 @@ mod lexeme;
 pub mod making;
 pub mod operators;
 mod tree;
+mod words;
 
 pub use lexeme::Lexeme;
 pub use tree::{

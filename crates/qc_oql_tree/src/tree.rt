@@ -2,7 +2,7 @@
 use qc_data::{Boxed, Chars, List};
 
 /// A literal that is a word.
-#[derive(Clone, Copy, Debug, PartialEq, Eq)]
+#[derive(Clone, Copy)]
 pub enum Constant {
     /// `true`
     True,
@@ -13,7 +13,7 @@ pub enum Constant {
 }
 
 /// An operator or a function of one operand. Those that are no marks and no `not` are written with parentheses.
-#[derive(Clone, Copy, Debug, PartialEq, Eq)]
+#[derive(Clone, Copy)]
 pub enum Unary {
     Not,
     Neg,
@@ -33,7 +33,7 @@ pub enum Unary {
 }
 
 /// An operator or a function of two operands.
-#[derive(Clone, Copy, Debug, PartialEq, Eq)]
+#[derive(Clone, Copy)]
 pub enum Binary {
     Or,
     And,
@@ -68,7 +68,7 @@ pub enum Binary {
 }
 
 /// A division by a literal.
-#[derive(Clone, Copy, Debug, PartialEq, Eq)]
+#[derive(Clone, Copy)]
 pub enum Division {
     /// `/`
     DivBy,
@@ -77,14 +77,14 @@ pub enum Division {
 }
 
 /// A function of a class and an operand.
-#[derive(Clone, Copy, Debug, PartialEq, Eq)]
+#[derive(Clone, Copy)]
 pub enum Branding {
     Cast,
     Brand,
 }
 
 /// Whether some member is to meet a condition, or each.
-#[derive(Clone, Copy, Debug, PartialEq, Eq)]
+#[derive(Clone, Copy)]
 pub enum Quantifier {
     /// `exists`
     Exists,
@@ -93,7 +93,7 @@ pub enum Quantifier {
 }
 
 /// Whether the least value of a key comes first, or the greatest.
-#[derive(Clone, Copy, Debug, PartialEq, Eq)]
+#[derive(Clone, Copy)]
 pub enum Direction {
     /// `asc`, or nothing
     Asc,

@@ -1,5 +1,7 @@
--- Whether a table tells its words by the next token: a check of each alternative by itself, with what is noted of the rules.
-use Rattle.std.specs.Prelude.{◌≡◌, ℕ, zero, suc, ◌+◌, Bool, true, false, cond, if◌then◌else◌, ◌&&◌, ◌||◌, not, eqb, ltb, List, [], ◌∷◌, ◌++◌, length, Option, Some, None, slice_get}
+-- Whether a table tells its words by the next token: a check of each alternative by itself, with what is noted of the
+-- rules. Below g has the rules, o on what each alternative is chosen, c the notes, and f what may come behind.
+use Rattle.std.specs.Prelude.{ℕ, zero, suc, ◌+◌, Bool, true, false, cond, if◌then◌else◌, ◌&&◌, ◌||◌, not}
+use Rattle.std.specs.Prelude.{eqb, ltb, List, [], ◌∷◌, ◌++◌, length, Option, Some, None, slice_get}
 use Rattle.qc_grammar.specs.declared.symbol.Symbol.{Symbol}
 use Rattle.qc_grammar.specs.declared.symbol.Symbol.TheVariants.{Token, Rule, Action}
 use Rattle.qc_grammar.specs.inner.Derivations.{Rules, alternatives}
@@ -9,51 +11,38 @@ use Rattle.qc_grammar.specs.inner.Machine.{Choices, choices_of, member}
 pub record Note : Type 0 where
   -- what may come next behind the rule: 0 is the end, and suc k a token of the kind k
   pub follow : List ℕ
-  -- an alternative that leads to a word, and a number above the ranks of the rules in it
+  -- an alternative that leads to a word
   pub seed : ℕ
+  -- a number above the ranks of the rules in that alternative
   pub rank : ℕ
-  -- above the steps that an alternative takes before the next token
+  -- a number above the steps that any alternative takes before the next token
   pub weight : ℕ
   -- whether each word has a token
   pub solid : Bool
 
+-- of each rule, by its number
 abbrev pub Notes : Type 0
 Notes = List Note
 
-abbrev pub follow_in : Option Note → List ℕ
-follow_in (Some n) = n.follow
-follow_in None = []
-
-abbrev pub rank_in : Option Note → ℕ
-rank_in (Some n) = n.rank
-rank_in None = 0
-
-abbrev pub seed_in : Option Note → ℕ
-seed_in (Some n) = n.seed
-seed_in None = 0
-
-abbrev pub weight_in : Option Note → ℕ
-weight_in (Some n) = n.weight
-weight_in None = 0
-
-abbrev pub solid_in : Option Note → Bool
-solid_in (Some n) = n.solid
-solid_in None = false
+-- what is noted, or nothing
+abbrev pub noted : Option Note → Note
+noted (Some note) = note
+noted None = record { follow = []; seed = 0; rank = 0; weight = 0; solid = false }
 
 abbrev pub follow_of : Notes → ℕ → List ℕ
-follow_of c n = follow_in (slice_get c n)
-
-abbrev pub rank_of : Notes → ℕ → ℕ
-rank_of c n = rank_in (slice_get c n)
+follow_of c n = (noted (slice_get c n)).follow
 
 abbrev pub seed_of : Notes → ℕ → ℕ
-seed_of c n = seed_in (slice_get c n)
+seed_of c n = (noted (slice_get c n)).seed
+
+abbrev pub rank_of : Notes → ℕ → ℕ
+rank_of c n = (noted (slice_get c n)).rank
 
 abbrev pub weight_of : Notes → ℕ → ℕ
-weight_of c n = weight_in (slice_get c n)
+weight_of c n = (noted (slice_get c n)).weight
 
 abbrev pub solid_of : Notes → ℕ → Bool
-solid_of c n = solid_in (slice_get c n)
+solid_of c n = (noted (slice_get c n)).solid
 
 -- ---- sets of what may come next
 
@@ -62,6 +51,7 @@ abbrev pub all_choices : List (List ℕ) → List ℕ
 all_choices [] = []
 all_choices (o ∷ os) = o ++ all_choices os
 
+-- one more, unless it is 0
 abbrev pub bump : ℕ → ℕ
 bump zero = 0
 bump (suc n) = suc (suc n)
@@ -81,7 +71,7 @@ abbrev pub leads : List ℕ → ℕ → List (List ℕ) → Bool
 leads [] p os = true
 leads (k ∷ s) p os = eqb (turn os k) (suc p) && leads s p os
 
--- by what the symbols may begin, where the set is what may come behind them
+-- by what the symbols may begin
 abbrev pub begins : Choices → List Symbol → List ℕ → List ℕ
 begins o [] f = f
 begins o (Token k ∷ σ) f = suc k ∷ []
@@ -94,7 +84,8 @@ begins o (Action a ∷ σ) f = begins o σ f
 abbrev pub follows : Rules → Choices → Notes → List ℕ → List Symbol → Bool
 follows g o c f [] = true
 follows g o c f (Token k ∷ σ) = follows g o c f σ
-follows g o c f (Rule n ∷ σ) = ltb n (length g) && (within (begins o σ f) (follow_of c n) && follows g o c f σ)
+follows g o c f (Rule n ∷ σ) =
+    ltb n (length g) && (within (begins o σ f) (follow_of c n) && follows g o c f σ)
 follows g o c f (Action a ∷ σ) = follows g o c f σ
 
 -- the steps that the symbols may take before the next token
@@ -118,12 +109,15 @@ ranked g c r (Token k ∷ σ) = ranked g c r σ
 ranked g c r (Rule n ∷ σ) = ltb n (length g) && (ltb (rank_of c n) r && ranked g c r σ)
 ranked g c r (Action a ∷ σ) = ranked g c r σ
 
+-- the alternative p of the rule n: it is chosen on all by which it may begin, its rules may be followed so, it takes
+-- few steps before a token, and it has a token if the rule is to have one
 abbrev pub good : Rules → Choices → Notes → ℕ → ℕ → List Symbol → Bool
 good g o c n p body = leads (begins o body (follow_of c n)) p (choices_of o n)
     && (follows g o c (follow_of c n) body
     && (ltb (steps c body) (weight_of c n)
     && (not (solid_of c n) || stops c body)))
 
+-- the alternatives of the rule n, from the one with the number p on
 abbrev pub all_good : Rules → Choices → Notes → ℕ → ℕ → List (List Symbol) → Bool
 all_good g o c n p [] = true
 all_good g o c n p (b ∷ bs) = good g o c n p b && all_good g o c n (suc p) bs
@@ -133,15 +127,13 @@ abbrev pub sown : Rules → Notes → ℕ → Option (List Symbol) → Bool
 sown g c r None = false
 sown g c r (Some b) = ranked g c r b
 
+-- the rules from the one with the number n on
 abbrev pub all_rules : Rules → Choices → Notes → ℕ → List (List (List Symbol)) → Bool
 all_rules g o c n [] = true
-all_rules g o c n (e ∷ es) = all_good g o c n 0 (alternatives g n) && (sown g c (rank_of c n) (slice_get (alternatives g n) (seed_of c n)) && all_rules g o c (suc n) es)
+all_rules g o c n (e ∷ es) = all_good g o c n 0 (alternatives g n)
+    && (sown g c (rank_of c n) (slice_get (alternatives g n) (seed_of c n))
+    && all_rules g o c (suc n) es)
 
--- the table is exact
+-- the table is exact: its rules pass, there is one, and behind the start may be the end
 abbrev pub is_exact : Rules → Choices → Notes → Bool
 is_exact g o c = all_rules g o c 0 g && (ltb 0 (length g) && member 0 (follow_of c 0))
-
--- with some notes
-pub record IsExact (g : Rules) (o : Choices) : Type 0 where
-  pub notes : Notes
-  pub checks : is_exact g o notes ≡ true

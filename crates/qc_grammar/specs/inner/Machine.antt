@@ -1,5 +1,6 @@
 -- How a table is read: a stack of symbols, and one alternative by what comes next.
-use Rattle.std.specs.Prelude.{◌≡◌, ℕ, suc, Bool, false, if◌then◌else◌, ◌||◌, eqb, List, [], ◌∷◌, ◌++◌, Option, Some, slice_get}
+use Rattle.std.specs.Prelude.{◌≡◌, ℕ, suc, Bool, false, if◌then◌else◌, ◌||◌, eqb, List, [], ◌∷◌, ◌++◌}
+use Rattle.std.specs.Prelude.{Option, Some, slice_get}
 use Rattle.qc_grammar.specs.declared.symbol.Symbol.{Symbol}
 use Rattle.qc_grammar.specs.declared.symbol.Symbol.TheVariants.{Token, Rule, Action}
 use Rattle.qc_grammar.specs.declared.symbol.Event.{Event}
@@ -35,6 +36,10 @@ choose g o n k = slice_get (alternatives g n) (place (choices_of o n) k)
 -- the kinds lead to this stack, so many tokens read, this rest and these actions
 pub data Reached (g : Rules) (o : Choices) (kinds : List ℕ) : List Symbol → ℕ → List ℕ → List Event → Type 0 where
   begun : Reached g o kinds (Rule 0 ∷ []) 0 kinds []
-  took : {i k : ℕ} {σ : List Symbol} {rest : List ℕ} {es : List Event} → Reached g o kinds (Token k ∷ σ) i (k ∷ rest) es → Reached g o kinds σ (suc i) rest es
-  acted : {i a : ℕ} {σ : List Symbol} {rest : List ℕ} {es : List Event} → Reached g o kinds (Action a ∷ σ) i rest es → Reached g o kinds σ i rest (es ++ record { action = a; at = i } ∷ [])
-  went : {i n : ℕ} {σ body : List Symbol} {rest : List ℕ} {es : List Event} → choose g o n (next rest) ≡ Some body → Reached g o kinds (Rule n ∷ σ) i rest es → Reached g o kinds (body ++ σ) i rest es
+  took : {i k : ℕ} {σ : List Symbol} {rest : List ℕ} {es : List Event}
+      → Reached g o kinds (Token k ∷ σ) i (k ∷ rest) es → Reached g o kinds σ (suc i) rest es
+  acted : {i a : ℕ} {σ : List Symbol} {rest : List ℕ} {es : List Event}
+      → Reached g o kinds (Action a ∷ σ) i rest es
+      → Reached g o kinds σ i rest (es ++ record { action = a; at = i } ∷ [])
+  went : {i n : ℕ} {σ body : List Symbol} {rest : List ℕ} {es : List Event} → choose g o n (next rest) ≡ Some body
+      → Reached g o kinds (Rule n ∷ σ) i rest es → Reached g o kinds (body ++ σ) i rest es

@@ -18,6 +18,7 @@ After g o kinds i rest σ es (Ok Fails) = Refused (Whole g) kinds i
 After g o kinds i rest σ es (Err e) = Unit {0}
 
 -- what leads to the first stack leads to what is left of it
-abbrev pub Expands : Rules → Choices → ℕ → ℕ → List Symbol → List Event → List Symbol → List Event → Result Top Memory → Type 0
+abbrev pub Expands : Rules → Choices → ℕ → ℕ → List Symbol → List Event → List Symbol → List Event → Result Top Memory
+    → Type 0
 Expands g o k i σ es τ fs r =
     (kinds rest : List ℕ) → k ≡ next rest → Reached g o kinds σ i rest es → After g o kinds i rest τ fs r
