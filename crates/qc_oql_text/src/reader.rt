@@ -34,7 +34,8 @@ pub fn parse(alloc: Global, words: &Words) -> Result<Query, SyntaxFault>
 
 /// The kinds of the tokens.
 fn kinds(alloc: Global, words: &Words) -> Result<List<u32>, Memory>
-    ensures { IfOk result (λ kinds. kinds ≡ map kind (lexemes words.now)) }
+    ensures all { IfOk result (λ kinds. kinds ≡ map kind (lexemes words.now)) }
+    ensures few { IfOk result (λ kinds. length kinds ≤ 1000) }
 {
     let mut kinds = List::new(alloc);
     for at in 0..words.len() {

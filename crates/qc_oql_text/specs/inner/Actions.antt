@@ -1,5 +1,6 @@
 -- What the actions of the grammar do with a stack of values, behind so many tokens.
 use Rattle.std.specs.Prelude.{ℕ, ℤ, neg_ℤ, Bool, true, false, pred, if◌then◌else◌, eqb, List, [], ◌∷◌, ◌++◌}
+use Rattle.std.specs.Prelude.{Some, None}
 use Rattle.qc_grammar.specs.declared.symbol.Event.{Event}
 use Rattle.qc_lex.specs.declared.token.Lexeme.{Lexeme}
 use Rattle.qc_oql_tree.specs.declared.tree.Direction.{Direction}
