@@ -1,12 +1,11 @@
 -- Each alternative of the table is a case of the grammar.
-use Rattle.std.proofs.Common.{◌≡◌, ◌&&◌, ℕ, suc, Bool, true, false, ℤ, neg_ℤ, List, [], ◌∷◌, ◌++◌, map, refl, sym, ap, ◌∙◌, subst, eqb, slice_get, Some, None}
+use Rattle.std.proofs.Common.{◌≡◌, ◌||◌, ℕ, suc, Bool, true, false, ℤ, neg_ℤ, List, [], ◌∷◌, ◌++◌, map, refl, sym, ap, ◌∙◌, subst, eqb, slice_get, Some, None}
 use Rattle.std.proofs.lemmas.Bool.{eq-eqb}
 use Rattle.std.proofs.Math.Bool.{or-true}
 use Rattle.qc_grammar.specs.declared.symbol.Symbol.{Symbol}
 use Rattle.qc_grammar.specs.declared.symbol.Symbol.TheVariants.{Token}
 use Rattle.qc_grammar.specs.inner.Derivations.{alternatives}
-use Rattle.qc_grammar.specs.inner.Machine.{member}
-use Rattle.qc_grammar.proofs.Sets.{in_within}
+use Rattle.qc_oql_tree.specs.Kinds.{among}
 use Rattle.qc_lex.specs.declared.token.Lexeme.{Lexeme}
 use Rattle.qc_oql_tree.specs.declared.tree.Direction.TheVariants as direction
 use Rattle.qc_oql_tree.specs.declared.tree.Named.{Named}
@@ -16,7 +15,7 @@ use Rattle.qc_oql_tree.specs.declared.tree.Quantifier.TheVariants as quantifier
 use Rattle.qc_oql_tree.specs.Grammar as rel
 use Rattle.qc_oql_tree.specs.Kinds.{NAME, DISTINCT, IF, FOR, EXISTS, TRUE, FALSE, NIL, CAST, BRAND, NOT, MINUS, TEXT, OPEN, CLOSE, COLON, STRUCT, BAG, MATCH}
 use Rattle.qc_oql_tree.specs.Kinds.{WHOLES, CONSTANTS, SETS, SUMS, DIVISIONS, TESTS, UNARIES, BINARIES, BRANDINGS, LABELS}
-use Rattle.qc_oql_tree.specs.Lexemes.{kind, whole, content}
+use Rattle.qc_oql_tree.specs.Lexemes.{kind, whole, content, lexeme_at}
 use Rattle.qc_oql_tree.specs.Operators.{constant_of, unary_of, binary_of, division_of, branding_of}
 use Rattle.qc_oql_tree.specs.Trees as trees
 use Rattle.qc_oql_text.specs.declared.value.Value.TheVariants as value
@@ -52,7 +51,7 @@ module _ (ts : List Lexeme) where
       cc
 
   -- a part of a class of tokens
-  class_part : (n : ℕ) (all ks : List ℕ) → of (words.words ts) n ≡ words.class ts all → ((k : ℕ) → member k ks ≡ true → member k all ≡ true) → Closes K (act ts) (words.words ts) n (map words.single ks)
+  class_part : (n : ℕ) (all ks : List ℕ) → of (words.words ts) n ≡ words.class ts all → ((k : ℕ) → among k ks ≡ true → among k all ≡ true) → Closes K (act ts) (words.words ts) n (map words.single ks)
   class_part n all [] e f = tt
   class_part n all (k ∷ ks) e f = (
     (λ i s t. subst (λ R. (w : R.Word i s) × (R.end i s w ≡ suc i) × (R.stack i s w ≡ s)) (sym e) ((k, t, f k (rw (eq-eqb k k refl) refl)), refl, refl)),
@@ -64,15 +63,15 @@ module _ (ts : List Lexeme) where
   closes_class n ks e = class_part n ks ks e (λ k m. m)
 
   -- the kind of a class
-  class_apart : (i : ℕ) (ks : List ℕ) → member DISTINCT ks ≡ false → rel.Among ts i ks → rel.Is ts i DISTINCT → ⊥
+  class_apart : (i : ℕ) (ks : List ℕ) → among DISTINCT ks ≡ false → rel.Among ts i ks → rel.Is ts i DISTINCT → ⊥
   class_apart i ks e c d =
       let q : c.0 ≡ DISTINCT = (let a = c.1 in cc) in
-      let t : true ≡ false = sym c.2 ∙ ap (λ k. member k ks) q ∙ e in
+      let t : true ≡ false = sym c.2 ∙ ap (λ k. among k ks) q ∙ e in
       cc
 
   -- among all functions of one operand
   plain_unary : (i : ℕ) → rel.Among ts i PLAIN_UNARIES → rel.Among ts i UNARIES
-  plain_unary i c = (c.0, c.1, in_within PLAIN_UNARIES UNARIES c.0 refl c.2)
+  plain_unary i c = (c.0, c.1, ap (λ z. eqb c.0 EXISTS || (eqb c.0 DISTINCT || z)) c.2 ∙ ap (λ z. eqb c.0 EXISTS || z) (or-true (eqb c.0 DISTINCT)) ∙ or-true (eqb c.0 EXISTS))
 
   -- a tail behind what it goes on
   joined : (G H : ℕ → ℕ → Oql → Type 0) (i m : ℕ) (x : Oql) (s : Values) → G i m x → (w : (grows value.Tree G H).Word m (value.Tree x ∷ s))
@@ -512,7 +511,7 @@ module _ (ts : List Lexeme) where
   of_rel_tail = (
     (λ i s e w. ((w.0, value.Tree (tree.Binary i (binary_of (rel.kind_at ts i)) (the_tree s) w.1) ∷ rest s, λ h x r f q. (tree.Binary i (binary_of (rel.kind_at ts i)) x w.1, rel.compared f e w.2, ap (λ z. value.Tree (tree.Binary i (binary_of (rel.kind_at ts i)) (the_tree z) w.1) ∷ rest z) q)), refl, refl)),
     (
-      (λ i s e1 e2. ((suc (suc i), value.Tree (tree.Like i (the_tree s) (content (rel.token ts (suc i)))) ∷ rest s, λ h x r f q. (tree.Like i x (content (rel.token ts (suc i))), rel.like f e1 e2, ap (λ z. value.Tree (tree.Like i (the_tree z) (content (rel.token ts (suc i)))) ∷ rest z) q)), refl, refl)),
+      (λ i s e1 e2. ((suc (suc i), value.Tree (tree.Like i (the_tree s) (content (lexeme_at ts (suc i)))) ∷ rest s, λ h x r f q. (tree.Like i x (content (lexeme_at ts (suc i))), rel.like f e1 e2, ap (λ z. value.Tree (tree.Like i (the_tree z) (content (lexeme_at ts (suc i)))) ∷ rest z) q)), refl, refl)),
       (
         (λ i s. ((i, s, λ h x r f q. (x, rel.untested f, q)), refl, refl)),
         tt,
@@ -556,9 +555,9 @@ module _ (ts : List Lexeme) where
   of_divisor : Of 49
   unfolding act actions.act_list actions.act_tree grammar
   of_divisor = (
-    (λ i s e1 e2. ((suc (suc i), neg_ℤ (whole (rel.token ts (suc i))), rel.negative e1 e2), refl, refl)),
+    (λ i s e1 e2. ((suc (suc i), neg_ℤ (whole (lexeme_at ts (suc i))), rel.negative e1 e2), refl, refl)),
     (
-      (λ i s e. ((suc i, whole (rel.token ts i), rel.positive e), refl, refl)),
+      (λ i s e. ((suc i, whole (lexeme_at ts i), rel.positive e), refl, refl)),
       tt,
     ),
   )
@@ -596,9 +595,9 @@ module _ (ts : List Lexeme) where
   of_atom_but_both : Of 53
   unfolding act actions.act_list actions.act_tree grammar
   of_atom_but_both = (
-    (λ i s c. ((suc i, tree.Whole i (whole (rel.token ts i)), (class_apart i WHOLES refl c, rel.number c)), refl, refl)),
+    (λ i s c. ((suc i, tree.Whole i (whole (lexeme_at ts i)), (class_apart i WHOLES refl c, rel.number c)), refl, refl)),
     (
-      (λ i s e. ((suc i, tree.Text i (content (rel.token ts i)), (two i TEXT DISTINCT refl e, rel.text e)), refl, refl)),
+      (λ i s e. ((suc i, tree.Text i (content (lexeme_at ts i)), (two i TEXT DISTINCT refl e, rel.text e)), refl, refl)),
       (
         (λ i s c. ((suc i, tree.Constant i (constant_of (rel.kind_at ts i)), (class_apart i CONSTANTS refl c, rel.constant c)), refl, refl)),
         (

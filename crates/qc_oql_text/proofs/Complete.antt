@@ -5,7 +5,7 @@ use Rattle.std.proofs.lemmas.Bool.{eqb-true, eq-eqb}
 use Rattle.qc_grammar.specs.declared.symbol.Symbol.{Symbol}
 use Rattle.qc_grammar.specs.declared.symbol.Symbol.TheVariants.{Token, Rule, Action}
 use Rattle.qc_grammar.specs.inner.Derivations.{Produces, alternatives}
-use Rattle.qc_grammar.specs.inner.Machine.{member}
+use Rattle.qc_oql_tree.specs.Kinds.{among}
 use Rattle.qc_lex.specs.declared.token.Lexeme.{Lexeme}
 use Rattle.qc_oql_tree.specs.declared.tree.Filter.{Filter}
 use Rattle.qc_oql_tree.specs.declared.tree.Key.{Key}
@@ -115,17 +115,17 @@ some_or_not : (o : Option ℕ) (k : ℕ) → (o ≡ Some k) ⊎ (o ≡ Some k �
 some_or_not None k = inr (λ h. cc)
 some_or_not (Some a) k = same_or_not a k (eqb a k) refl
 
-found_by : (ks : List ℕ) (k x : ℕ) (b : Bool) → eqb k x ≡ b → (member k ks ≡ true → (p : ℕ) × (slice_get (map single ks) p ≡ Some (single k))) → member k (x ∷ ks) ≡ true → (p : ℕ) × (slice_get (map single (x ∷ ks)) p ≡ Some (single k))
+found_by : (ks : List ℕ) (k x : ℕ) (b : Bool) → eqb k x ≡ b → (among k ks ≡ true → (p : ℕ) × (slice_get (map single ks) p ≡ Some (single k))) → among k (x ∷ ks) ≡ true → (p : ℕ) × (slice_get (map single (x ∷ ks)) p ≡ Some (single k))
 found_by ks k x true e f m = (zero, ap (λ z. Some (single z)) (sym (eqb-true k x e)))
-found_by ks k x false e f m = (let r = f (let q : member k ks ≡ true = cc in q) in (suc r.0, r.1))
+found_by ks k x false e f m = (let r = f (let q : among k ks ≡ true = cc in q) in (suc r.0, r.1))
 
 -- the alternative of a token in a rule of a class
-found : (ks : List ℕ) (k : ℕ) → member k ks ≡ true → (p : ℕ) × (slice_get (map single ks) p ≡ Some (single k))
+found : (ks : List ℕ) (k : ℕ) → among k ks ≡ true → (p : ℕ) × (slice_get (map single ks) p ≡ Some (single k))
 found [] k h = cc
 found (x ∷ ks) k h = found_by ks k x (eqb k x) refl (found ks k) h
 
 -- a function of one operand is `exists`, `distinct` or another one
-which_by : (k : ℕ) (a b : Bool) → eqb k EXISTS ≡ a → eqb k DISTINCT ≡ b → member k UNARIES ≡ true → (k ≡ EXISTS) ⊎ ((k ≡ DISTINCT) ⊎ (member k PLAIN_UNARIES ≡ true))
+which_by : (k : ℕ) (a b : Bool) → eqb k EXISTS ≡ a → eqb k DISTINCT ≡ b → among k UNARIES ≡ true → (k ≡ EXISTS) ⊎ ((k ≡ DISTINCT) ⊎ (among k PLAIN_UNARIES ≡ true))
 which_by k true b e f m = inl (eqb-true k EXISTS e)
 which_by k false true e f m = inr (inl (eqb-true k DISTINCT f))
 which_by k false false e f m = inr (inr (let h = rw e at m in let l = rw f at h in l))
@@ -231,10 +231,10 @@ module _ (ts : List Lexeme) where
   }
 
   -- a class without `exists`
-  no_exists : (i : ℕ) (ks : List ℕ) → member EXISTS ks ≡ false → rel.Among ts i ks → rel.Is ts i EXISTS → ⊥
+  no_exists : (i : ℕ) (ks : List ℕ) → among EXISTS ks ≡ false → rel.Among ts i ks → rel.Is ts i EXISTS → ⊥
   no_exists i ks e c d =
       let q : c.0 ≡ EXISTS = (let a = c.1 in cc) in
-      let t : true ≡ false = sym c.2 ∙ ap (λ k. member k ks) q ∙ e in
+      let t : true ≡ false = sym c.2 ∙ ap (λ k. among k ks) q ∙ e in
       cc
 
   abbrev Call : List Symbol
@@ -259,7 +259,7 @@ module _ (ts : List Lexeme) where
   call_distinct i j x e w but_both a = absurd (a.1 e)
 
   -- a function with its operand
-  call_by : (i j k : ℕ) (x : Oql) → rel.Is ts i k → (k ≡ EXISTS) ⊎ ((k ≡ DISTINCT) ⊎ (member k PLAIN_UNARIES ≡ true)) → rel.Is ts (suc i) OPEN
+  call_by : (i j k : ℕ) (x : Oql) → rel.Is ts i k → (k ≡ EXISTS) ⊎ ((k ≡ DISTINCT) ⊎ (among k PLAIN_UNARIES ≡ true)) → rel.Is ts (suc i) OPEN
       → Yields (suc (suc i)) (Rule table.rule_expr ∷ []) j x → rel.Is ts j CLOSE → Opens atom_of [] i (suc j) (tree.Unary i (unary_of (rel.kind_at ts i)) x)
   unfolding act actions.act_list actions.act_tree grammar
   call_by i j k x e (inl q) o w c =

@@ -5,7 +5,7 @@ use Rattle.qc_grammar.proofs.Samples.{grammar_sampled}
 use Rattle.qc_lex.specs.declared.token.Lexeme.{Lexeme}
 use Rattle.qc_lex.specs.declared.token.Kind.TheVariants.{Word, Whole, Text, Mark}
 use Rattle.qc_oql_tree.specs.Kinds.{ZERO, NONZERO, TEXT}
-use Rattle.qc_oql_tree.specs.Lexemes.{kind, clause_words, form_words, operator_words, function_words, signs, points}
+use Rattle.qc_oql_tree.specs.Lexemes.{kind, words, marks}
 use Rattle.qc_oql_text.specs.inner.Table.{grammar}
 
 -- the piece beside a kind in the table, or else another
@@ -15,11 +15,11 @@ piece_in (entry ∷ table) other k = if eqb entry.1 k then entry.0 else piece_in
 
 -- a word of the kind
 abbrev pub word : ℕ → List ℕ
-word k = piece_in clause_words (piece_in form_words (piece_in operator_words (piece_in function_words (codes "x") k) k) k) k
+word k = piece_in words (codes "x") k
 
 -- a mark of the kind
 abbrev pub mark : ℕ → List ℕ
-mark k = piece_in signs (piece_in points [] k) k
+mark k = piece_in marks [] k
 
 -- a token of the kind
 abbrev pub sample : ℕ → Lexeme

@@ -4,8 +4,7 @@ use Rattle.std.specs.Prelude.{slice_get}
 use Rattle.std.proofs.lemmas.List.{length-map, take_all}
 use Rattle.qc_lex.specs.declared.token.Placed.{Placed}
 use Rattle.qc_lex.specs.Words.{lexemes}
-use Rattle.qc_oql_tree.specs.Lexemes.{kind, lexeme_or}
-use Rattle.qc_oql_tree.specs.Grammar.{token_or}
+use Rattle.qc_oql_tree.specs.Lexemes.{kind, lexeme_or, token_or}
 
 -- a token of the scan is one of its lexemes
 pub same_token : (ws : List Placed) (at : ℕ) → lexeme_or (slice_get ws at) ≡ token_or (slice_get (lexemes ws) at)

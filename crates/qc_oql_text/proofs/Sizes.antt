@@ -2,7 +2,12 @@
 use Rattle.std.proofs.Common.{◌≡◌, ◌≤◌, ℕ, suc, ◌+◌, ◌*◌, List, [], ◌∷◌, ◌++◌, length, arith}
 use Rattle.std.proofs.lemmas.List.Sums.{sum_by-append}
 use Rattle.std.specs.List.{sum_by}
-use Rattle.std.specs.Prelude.{ℤ, Bool, Option}
+use Rattle.std.specs.Prelude.{ℤ, Bool, Option, Result, Ok, Err, IfOk}
+use Rattle.std.proofs.lemmas.List.{length-map}
+use Rattle.qc_grammar.specs.declared.fault.SyntaxFault.{SyntaxFault}
+use Rattle.qc_grammar.specs.Parsing.{Parses}
+use Rattle.qc_lex.specs.declared.token.Placed.{Placed}
+use Rattle.qc_lex.specs.Words.{lexemes}
 use Rattle.qc_lex.specs.declared.token.Lexeme.{Lexeme}
 use Rattle.qc_oql_tree.specs.declared.tree.Binary.{Binary}
 use Rattle.qc_oql_tree.specs.declared.tree.Direction.{Direction}
@@ -18,7 +23,7 @@ use Rattle.qc_oql_tree.specs.declared.tree.Query as queries
 use Rattle.qc_oql_tree.specs.declared.tree.Select.{Select}
 use Rattle.qc_oql_tree.specs.declared.tree.Unary.{Unary}
 use Rattle.qc_oql_tree.specs.Grammar as rel
-use Rattle.qc_oql_tree.specs.Lexemes.{whole, content}
+use Rattle.qc_oql_tree.specs.Lexemes.{whole, content, lexeme_at}
 use Rattle.qc_oql_tree.specs.Operators.{constant_of, unary_of, binary_of, division_of, branding_of}
 use Rattle.qc_oql_tree.specs.Sizes.{size, filter_size, key_size, named_size, order_size, select_size, query_size}
 use Rattle.qc_oql_tree.specs.Trees.{named, select, filter, order, key}
@@ -113,7 +118,7 @@ module _ (ts : List Lexeme) where
 
     sized_rel : {i j : ℕ} {x : Oql} → rel.Rel ts i j x → i + size x ≤ j
     sized_rel {i = i} {j = k} (rel.compared {j = j} {x = x} {y = y} f e g) = binary i j k (binary_of (rel.kind_at ts j)) x y (sized_sets f) (sized_sets g)
-    sized_rel (rel.like {j = j} {x = x} f e g) = let a = sized_sets f in omega (arith, a, size-Like j x (content (rel.token ts (suc j))))
+    sized_rel (rel.like {j = j} {x = x} f e g) = let a = sized_sets f in omega (arith, a, size-Like j x (content (lexeme_at ts (suc j))))
     sized_rel (rel.untested f) = sized_sets f
 
     sized_sets : {i j : ℕ} {x : Oql} → rel.Sets ts i j x → i + size x ≤ j
@@ -139,8 +144,8 @@ module _ (ts : List Lexeme) where
     sized_path (rel.one_atom f) = sized_atom f
 
     sized_atom : {i j : ℕ} {x : Oql} → rel.Atom ts i j x → i + size x ≤ j
-    sized_atom {i = i} (rel.number c) = omega (arith, size-Whole i (whole (rel.token ts i)))
-    sized_atom {i = i} (rel.text e) = omega (arith, size-Text i (content (rel.token ts i)))
+    sized_atom {i = i} (rel.number c) = omega (arith, size-Whole i (whole (lexeme_at ts i)))
+    sized_atom {i = i} (rel.text e) = omega (arith, size-Text i (content (lexeme_at ts i)))
     sized_atom {i = i} (rel.constant c) = omega (arith, size-Constant i (constant_of (rel.kind_at ts i)))
     sized_atom {i = i} (rel.name e) = omega (arith, size-Name i (rel.text_at ts i))
     sized_atom (rel.parens e f c) = let a = sized_expr f in omega (arith, a)
@@ -192,3 +197,8 @@ module _ (ts : List Lexeme) where
   -- at most one node for each token
   pub sized_query : (q : queries.Query) → rel.Query ts q → query_size q ≤ length ts
   sized_query q (rel.query f g e) = let a = sized_defines f in let b = sized_expr g in let c = sized_ending e in omega (arith, a, b, c)
+
+-- and so at most 16
+pub small : (ws : List Placed) (r : Result queries.Query SyntaxFault) → Parses rel.Query (lexemes ws) r → IfOk r (λ query. query_size query ≤ 16 * length ws)
+small ws (Ok query) p = let a = sized_query (lexemes ws) query p.spells in omega (arith, a, length-map ws (λ w. w.lexeme))
+small ws (Err fault) p = tt

@@ -3,7 +3,9 @@ ghost use Rattle.std.specs.Prelude.{◌≡◌, ◌≤◌, ◌*◌, map, length, 
 ghost use Rattle.qc_grammar.specs.Parsing.{Parses};
 ghost use Rattle.qc_grammar.specs.inner.Derivations.{Whole};
 ghost use Rattle.qc_lex.specs.Words.{lexemes};
+ghost use Rattle.qc_oql_tree.specs.Grammar as oql;
 ghost use Rattle.qc_oql_tree.specs.Lexemes.{kind};
+ghost use Rattle.qc_oql_tree.specs.Sizes.{query_size};
 ghost use Rattle.qc_oql_text.specs.inner.Actions as spec;
 ghost use Rattle.qc_oql_text.specs.inner.Meaning.{Means};
 ghost use Rattle.qc_oql_text.specs.inner.Table.{grammar};
@@ -21,7 +23,15 @@ use std::alloc::Global;
 /// `BadSyntax` comes exactly where the list spells none, with the place from which on it begins no list that spells a
 /// query, or the number of tokens where it begins one. `Err(Memory)` says that memory was wanting.
 pub fn parse(alloc: Global, words: &Words) -> Result<Query, SyntaxFault>
-    ensures parses { Parses Means (lexemes words.now) result }
+    ensures parses { Parses oql.Query (lexemes words.now) result }
+    ensures small { IfOk result (λ query. query_size query ≤ 16 * length words.now) }
+{
+    by_table(alloc, words)
+}
+
+/// The query that the table spells, which is the grammar's.
+fn by_table(alloc: Global, words: &Words) -> Result<Query, SyntaxFault>
+    ensures { Parses Means (lexemes words.now) result }
 {
     match derivation(alloc, words) {
         Ok(events) => match query(alloc, words, events.as_slice()) {
@@ -34,7 +44,8 @@ pub fn parse(alloc: Global, words: &Words) -> Result<Query, SyntaxFault>
 
 /// The kinds of the tokens.
 fn kinds(alloc: Global, words: &Words) -> Result<List<u32>, Memory>
-    ensures { IfOk result (λ kinds. kinds ≡ map kind (lexemes words.now)) }
+    ensures all { IfOk result (λ kinds. kinds ≡ map kind (lexemes words.now)) }
+    ensures few { IfOk result (λ kinds. length kinds ≤ 1000) }
 {
     let mut kinds = List::new(alloc);
     for at in 0..words.len() {

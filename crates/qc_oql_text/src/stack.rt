@@ -1,5 +1,5 @@
 // Values taken from the stack. Where another is on top than is wanted, one stands for it (specs/inner/Values.antt).
-ghost use Rattle.std.specs.Prelude.{◌≡◌, IfOk};
+ghost use Rattle.std.specs.Prelude.{◌≡◌, [], IfOk};
 ghost use Rattle.qc_oql_text.specs.inner.Values as spec;
 
 use crate::value::{Mark, Value, Word};
@@ -8,6 +8,9 @@ use qc_grammar::Stack;
 use qc_oql_tree::{Constant, Filter, Key, Named, Oql, Order};
 use std::alloc::Global;
 
+/// Lets a value go that is not wanted.
+fn let_go(_value: Option<Value>) {}
+
 /// Takes the place and the kind of a token.
 pub(crate) fn take_mark(stack: &mut Stack<Value>) -> Mark
     ensures value { result ≡ spec.the_mark stack.old }
@@ -15,8 +18,19 @@ pub(crate) fn take_mark(stack: &mut Stack<Value>) -> Mark
 {
     match stack.pop() {
         Some(Value::Mark(mark)) => mark,
-        _ => Mark { at: 0, kind: 0 },
+        other => {
+            let_go(other);
+            Mark { at: 0, kind: 0 }
+        }
     }
+}
+
+/// The word that stands for one.
+fn no_word(alloc: Global) -> Result<Word, Memory>
+    ensures { IfOk result (λ word. word ≡ spec.the_word []) }
+{
+    let text = Chars::of(alloc, "")?;
+    Ok(Word { at: 0, text })
 }
 
 /// Takes the text of a token.
@@ -26,10 +40,10 @@ fn take_word(alloc: Global, stack: &mut Stack<Value>) -> Result<Word, Memory>
 {
     match stack.pop() {
         Some(Value::Name(word)) => Ok(word),
-        _ => Ok(Word {
-            at: 0,
-            text: Chars::of(alloc, "")?,
-        }),
+        other => {
+            let_go(other);
+            no_word(alloc)
+        }
     }
 }
 
@@ -49,7 +63,10 @@ pub(crate) fn take_divisor(stack: &mut Stack<Value>) -> i64
 {
     match stack.pop() {
         Some(Value::Divisor(divisor)) => divisor,
-        _ => 0,
+        other => {
+            let_go(other);
+            0
+        }
     }
 }
 
@@ -60,7 +77,10 @@ pub(crate) fn take_tree(stack: &mut Stack<Value>) -> Oql
 {
     match stack.pop() {
         Some(Value::Tree(tree)) => tree,
-        _ => Oql::Constant(0, Constant::Nil),
+        other => {
+            let_go(other);
+            Oql::Constant(0, Constant::Nil)
+        }
     }
 }
 
@@ -71,7 +91,10 @@ pub(crate) fn take_members(alloc: Global, stack: &mut Stack<Value>) -> List<Oql>
 {
     match stack.pop() {
         Some(Value::Members(members)) => members,
-        _ => List::new(alloc),
+        other => {
+            let_go(other);
+            List::new(alloc)
+        }
     }
 }
 
@@ -82,7 +105,10 @@ pub(crate) fn take_entries(alloc: Global, stack: &mut Stack<Value>) -> List<Name
 {
     match stack.pop() {
         Some(Value::Entries(entries)) => entries,
-        _ => List::new(alloc),
+        other => {
+            let_go(other);
+            List::new(alloc)
+        }
     }
 }
 
@@ -93,7 +119,10 @@ pub(crate) fn take_keys(alloc: Global, stack: &mut Stack<Value>) -> List<Key>
 {
     match stack.pop() {
         Some(Value::Keys(keys)) => keys,
-        _ => List::new(alloc),
+        other => {
+            let_go(other);
+            List::new(alloc)
+        }
     }
 }
 
@@ -104,7 +133,10 @@ pub(crate) fn take_filter(stack: &mut Stack<Value>) -> Option<Filter>
 {
     match stack.pop() {
         Some(Value::Filtered(filter)) => filter,
-        _ => None,
+        other => {
+            let_go(other);
+            None
+        }
     }
 }
 
@@ -115,7 +147,10 @@ pub(crate) fn take_order(stack: &mut Stack<Value>) -> Option<Order>
 {
     match stack.pop() {
         Some(Value::Ordered(order)) => order,
-        _ => None,
+        other => {
+            let_go(other);
+            None
+        }
     }
 }
 

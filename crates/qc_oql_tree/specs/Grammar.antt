@@ -1,8 +1,6 @@
 -- The grammar of OQL: from which token on and up to which one a tree is spelled, one case for each alternative.
 use Rattle.std.specs.Prelude.{◌≡◌, ℕ, suc, ℤ, neg_ℤ, Bool, true, false, List, [], ◌∷◌, ◌++◌, length, map, slice_get}
 use Rattle.std.specs.Prelude.{Option, Some, None}
-use Rattle.qc_grammar.specs.inner.Machine.{member}
-use Rattle.qc_lex.specs.declared.token.Kind.TheVariants.{Mark}
 use Rattle.qc_lex.specs.declared.token.Lexeme.{Lexeme}
 use Rattle.qc_oql_tree.specs.declared.tree.Oql.{Oql}
 use Rattle.qc_oql_tree.specs.declared.tree.Oql.TheVariants as tree
@@ -17,31 +15,21 @@ use Rattle.qc_oql_tree.specs.declared.tree.Direction.{Direction}
 use Rattle.qc_oql_tree.specs.declared.tree.Direction.TheVariants as direction
 use Rattle.qc_oql_tree.specs.Kinds.{NAME, DEFINE, AS, SELECT, DISTINCT, FROM, WHERE, ORDER, BY, IN, ASC, DESC, IF, THEN}
 use Rattle.qc_oql_tree.specs.Kinds.{ELSE, EXISTS, FOR, ALL, OR, AND, NOT, LIKE, STRUCT, BAG, MATCH, LEFT, RIGHT}
-use Rattle.qc_oql_tree.specs.Kinds.{NONZERO}
-use Rattle.qc_oql_tree.specs.Kinds.{TEXT, OPEN, CLOSE, COMMA, DOT, COLON, SEMICOLON, MINUS, TIMES}
+use Rattle.qc_oql_tree.specs.Kinds.{NONZERO, TEXT, OPEN, CLOSE, COMMA, DOT, COLON, SEMICOLON, MINUS, TIMES}
 use Rattle.qc_oql_tree.specs.Kinds.{WHOLES, CONSTANTS, SETS, SUMS, DIVISIONS, TESTS, UNARIES, BINARIES, BRANDINGS}
-use Rattle.qc_oql_tree.specs.Kinds.{LABELS}
-use Rattle.qc_oql_tree.specs.Lexemes.{kind, whole, content}
+use Rattle.qc_oql_tree.specs.Kinds.{LABELS, among}
+use Rattle.qc_oql_tree.specs.Lexemes.{kind, whole, content, lexeme_at}
 use Rattle.qc_oql_tree.specs.Trees.{named, select, filter, order, key}
 use Rattle.qc_oql_tree.specs.Operators.{constant_of, unary_of, binary_of, division_of, branding_of}
 
--- a token, or where there is none a mark of no letter
-abbrev pub token_or : Option Lexeme → Lexeme
-token_or (Some t) = t
-token_or None = record { kind = Mark; piece = [] }
-
 module _ (tokens : List Lexeme) where
-  -- the token at a place
-  abbrev pub token : ℕ → Lexeme
-  token i = token_or (slice_get tokens i)
-
   -- the kind of the token at a place
   abbrev pub kind_at : ℕ → ℕ
-  kind_at i = kind (token i)
+  kind_at i = kind (lexeme_at tokens i)
 
   -- the text of the token at a place
   abbrev pub text_at : ℕ → List ℕ
-  text_at i = (token i).piece
+  text_at i = (lexeme_at tokens i).piece
 
   -- there is a token of this kind at the place
   abbrev pub Is : ℕ → ℕ → Type 0
@@ -49,7 +37,7 @@ module _ (tokens : List Lexeme) where
 
   -- there is a token of one of these kinds at the place
   abbrev pub Among : ℕ → List ℕ → Type 0
-  Among i ks = (k : ℕ) × Is i k × (member k ks ≡ true)
+  Among i ks = (k : ℕ) × Is i k × (among k ks ≡ true)
 
   mutual
     -- expr = "select" selection | q
@@ -105,8 +93,8 @@ module _ (tokens : List Lexeme) where
 
     -- q = "if" q "then" q "else" q | "exists" binding ":" q | "for" "all" binding ":" q | or
     pub data Q : ℕ → ℕ → Oql → Type 0 where
-      if_else : {i j k l : ℕ} {x y z : Oql} → Is i IF → Q (suc i) j x → Is j THEN → Q (suc j) k y → Is k ELSE
-          → Q (suc k) l z
+      if_else : {i j k l : ℕ} {x y z : Oql}
+          → Is i IF → Q (suc i) j x → Is j THEN → Q (suc j) k y → Is k ELSE → Q (suc k) l z
           → Q i l (tree.If i x y z)
       exists : {i j k : ℕ} {b : Named} {x : Oql} → Is i EXISTS → Binding (suc i) j b → Is j COLON → Q (suc j) k x
           → Q i k (tree.Quantified i quantifier.Exists b x)
@@ -137,7 +125,7 @@ module _ (tokens : List Lexeme) where
       compared : {i j k : ℕ} {x y : Oql}
           → Sets i j x → Among j TESTS → Sets (suc j) k y → Rel i k (tree.Binary j (binary_of (kind_at j)) x y)
       like : {i j : ℕ} {x : Oql} → Sets i j x → Is j LIKE → Is (suc j) TEXT
-          → Rel i (suc (suc j)) (tree.Like j x (content (token (suc j))))
+          → Rel i (suc (suc j)) (tree.Like j x (content (lexeme_at tokens (suc j))))
       untested : {i j : ℕ} {x : Oql} → Sets i j x → Rel i j x
 
     -- sets = sets ( "union" | "except" | "intersect" ) sum | sum
@@ -163,8 +151,9 @@ module _ (tokens : List Lexeme) where
 
     -- divisor = [ "-" ] NONZERO
     pub data Divisor : ℕ → ℕ → ℤ → Type 0 where
-      negative : {i : ℕ} → Is i MINUS → Is (suc i) NONZERO → Divisor i (suc (suc i)) (neg_ℤ (whole (token (suc i))))
-      positive : {i : ℕ} → Is i NONZERO → Divisor i (suc i) (whole (token i))
+      negative : {i : ℕ} → Is i MINUS → Is (suc i) NONZERO
+          → Divisor i (suc (suc i)) (neg_ℤ (whole (lexeme_at tokens (suc i))))
+      positive : {i : ℕ} → Is i NONZERO → Divisor i (suc i) (whole (lexeme_at tokens i))
 
     -- neg = "-" neg | path
     pub data Neg : ℕ → ℕ → Oql → Type 0 where
@@ -177,13 +166,12 @@ module _ (tokens : List Lexeme) where
           → Path i (suc (suc j)) (tree.Dot (suc j) x (text_at (suc j)))
       one_atom : {i j : ℕ} {x : Oql} → Atom i j x → Path i j x
 
-    -- atom = WHOLE | TEXT | "true" | "false" | "nil" | NAME | "(" expr ")" | "struct" "(" fields ")" | "bag" "("
-    -- members ")"
-    -- | unary "(" expr ")" | binary "(" q "," q ")" | ( "cast" | "brand" ) "(" NAME "," expr ")"
-    -- | "match" "(" q "," "left" NAME ":" q "," "right" NAME ":" q ")"
+    -- atom = WHOLE | TEXT | "true" | "false" | "nil" | NAME | "(" expr ")" | "struct" "(" fields ")"
+    -- | "bag" "(" members ")" | unary "(" expr ")" | binary "(" q "," q ")"
+    -- | ( "cast" | "brand" ) "(" NAME "," expr ")" | "match" "(" q "," "left" NAME ":" q "," "right" NAME ":" q ")"
     pub data Atom : ℕ → ℕ → Oql → Type 0 where
-      number : {i : ℕ} → Among i WHOLES → Atom i (suc i) (tree.Whole i (whole (token i)))
-      text : {i : ℕ} → Is i TEXT → Atom i (suc i) (tree.Text i (content (token i)))
+      number : {i : ℕ} → Among i WHOLES → Atom i (suc i) (tree.Whole i (whole (lexeme_at tokens i)))
+      text : {i : ℕ} → Is i TEXT → Atom i (suc i) (tree.Text i (content (lexeme_at tokens i)))
       constant : {i : ℕ} → Among i CONSTANTS → Atom i (suc i) (tree.Constant i (constant_of (kind_at i)))
       name : {i : ℕ} → Is i NAME → Atom i (suc i) (tree.Name i (text_at i))
       parens : {i j : ℕ} {x : Oql} → Is i OPEN → Expr (suc i) j x → Is j CLOSE → Atom i (suc j) x
@@ -197,8 +185,7 @@ module _ (tokens : List Lexeme) where
           → Among i BINARIES → Is (suc i) OPEN → Q (suc (suc i)) j x → Is j COMMA → Q (suc j) k y → Is k CLOSE
           → Atom i (suc k) (tree.Binary i (binary_of (kind_at i)) x y)
       brand : {i j : ℕ} {x : Oql} → Among i BRANDINGS → Is (suc i) OPEN → Is (suc (suc i)) NAME
-          → Is (suc (suc (suc i))) COMMA
-          → Expr (suc (suc (suc (suc i)))) j x → Is j CLOSE
+          → Is (suc (suc (suc i))) COMMA → Expr (suc (suc (suc (suc i)))) j x → Is j CLOSE
           → Atom i (suc j) (tree.Brand i (branding_of (kind_at i)) (text_at (suc (suc i))) x)
       match : {i j k l : ℕ} {x : Oql} {left right : Named} → Is i MATCH → Is (suc i) OPEN → Q (suc (suc i)) j x
           → Is j COMMA → Case LEFT (suc j) k left → Is k COMMA → Case RIGHT (suc k) l right → Is l CLOSE

@@ -1,5 +1,5 @@
 -- The kinds of tokens.
-use Rattle.std.specs.Prelude.{ℕ, List, [], ◌∷◌}
+use Rattle.std.specs.Prelude.{ℕ, Bool, false, eqb, ◌||◌, List, [], ◌∷◌}
 
 -- a word that is none of the language's
 abbrev pub NAME : ℕ
@@ -250,7 +250,7 @@ DIRECTIONS = ASC ∷ DESC ∷ []
 
 -- functions of one operand
 abbrev pub UNARIES : List ℕ
-UNARIES = COUNT ∷ SUM ∷ MIN ∷ MAX ∷ AVG ∷ ELEMENT ∷ FLATTEN ∷ DISTINCT ∷ ABS ∷ LEFT ∷ RIGHT ∷ UNBRAND ∷ EXISTS ∷ []
+UNARIES = EXISTS ∷ DISTINCT ∷ COUNT ∷ SUM ∷ MIN ∷ MAX ∷ AVG ∷ ELEMENT ∷ FLATTEN ∷ ABS ∷ LEFT ∷ RIGHT ∷ UNBRAND ∷ []
 
 -- functions of two operands
 abbrev pub BINARIES : List ℕ
@@ -267,3 +267,8 @@ LABELS =
     EXISTS ∷ FOR ∷ ALL ∷ TRUE ∷ FALSE ∷ NIL ∷ STRUCT ∷ BAG ∷ MATCH ∷ CAST ∷ BRAND ∷ OR ∷ AND ∷ NOT ∷ LIKE ∷
     UNION ∷ EXCEPT ∷ INTERSECT ∷ MOD ∷ COUNT ∷ SUM ∷ MIN ∷ MAX ∷ AVG ∷ ELEMENT ∷ FLATTEN ∷ ABS ∷ LEFT ∷ RIGHT ∷
     UNBRAND ∷ ORELSE ∷ LEAST ∷ GREATEST ∷ []
+
+-- whether the kind is one of these
+abbrev pub among : ℕ → List ℕ → Bool
+among k [] = false
+among k (x ∷ xs) = eqb k x || among k xs

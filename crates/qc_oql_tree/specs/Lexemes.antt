@@ -93,3 +93,11 @@ lexeme_or None = record { kind = Mark; piece = [] }
 -- the lexeme that the code holds as a scan and a number
 abbrev pub lexeme : scanned.Lexeme → Lexeme
 lexeme token = lexeme_or (slice_get token.words.now token.at)
+
+-- the token at a place of a list, and past the end a mark that there is not
+abbrev pub token_or : Option Lexeme → Lexeme
+token_or (Some token) = token
+token_or None = record { kind = Mark; piece = [] }
+
+abbrev pub lexeme_at : List Lexeme → ℕ → Lexeme
+lexeme_at tokens i = token_or (slice_get tokens i)

@@ -1,5 +1,6 @@
 -- What the actions of the grammar do with a stack of values, behind so many tokens.
-use Rattle.std.specs.Prelude.{ℕ, ℤ, neg_ℤ, Bool, true, false, pred, if◌then◌else◌, eqb, List, [], ◌∷◌, ◌++◌, Some, None}
+use Rattle.std.specs.Prelude.{ℕ, ℤ, neg_ℤ, Bool, true, false, pred, if◌then◌else◌, eqb, List, [], ◌∷◌, ◌++◌}
+use Rattle.std.specs.Prelude.{Some, None}
 use Rattle.qc_grammar.specs.declared.symbol.Event.{Event}
 use Rattle.qc_lex.specs.declared.token.Lexeme.{Lexeme}
 use Rattle.qc_oql_tree.specs.declared.tree.Direction.{Direction}
@@ -8,11 +9,11 @@ use Rattle.qc_oql_tree.specs.declared.tree.Oql.TheVariants as tree
 use Rattle.qc_oql_tree.specs.declared.tree.Quantifier.{Quantifier}
 use Rattle.qc_oql_tree.specs.declared.tree.Quantifier.TheVariants as quantifier
 use Rattle.qc_oql_tree.specs.declared.tree.Query.{Query}
-use Rattle.qc_oql_tree.specs.Grammar as grammar
 use Rattle.qc_oql_tree.specs.Lexemes as lexemes
 use Rattle.qc_oql_tree.specs.Operators.{constant_of, unary_of, binary_of, division_of, branding_of}
 use Rattle.qc_oql_tree.specs.Trees as trees
-use Rattle.qc_oql_text.specs.declared.value.Value.TheVariants.{Mark, Name, Divisor, Tree, Members, Entries, Keys, Filtered, Ordered}
+use Rattle.qc_oql_text.specs.declared.value.Value.TheVariants.{Mark, Name, Divisor, Tree, Members, Entries, Keys}
+use Rattle.qc_oql_text.specs.declared.value.Value.TheVariants.{Filtered, Ordered}
 use Rattle.qc_oql_text.specs.inner.Table.{DO_NONE, DO_NAME, DO_ENTRY, DO_MARK, DO_SELECT_DISTINCT, DO_SELECT, DO_FILTER}
 use Rattle.qc_oql_text.specs.inner.Table.{DO_NO_FILTER, DO_NO_KEYS, DO_ORDER, DO_NO_ORDER, DO_ASC, DO_DESC, DO_IF_ELSE}
 use Rattle.qc_oql_text.specs.inner.Table.{DO_FOR_ALL, DO_EXISTS, DO_UNARY, DO_BINARY, DO_LIKE, DO_DIVIDE, DO_NEGATIVE}
@@ -21,9 +22,11 @@ use Rattle.qc_oql_text.specs.inner.Table.{DO_NO_MEMBERS, DO_BAG, DO_CALL, DO_BRA
 use Rattle.qc_oql_text.specs.inner.Values.{Values, rest, the_mark, the_word, the_divisor, the_tree, the_members}
 use Rattle.qc_oql_text.specs.inner.Values.{the_entries, the_keys, the_filter, the_order, the_entry}
 
+-- ---- the token before
+
 -- the last of the first n tokens
 abbrev pub token : List Lexeme → ℕ → Lexeme
-token ts n = grammar.token ts (pred n)
+token ts n = lexemes.lexeme_at ts (pred n)
 
 -- ---- actions that put the token before on the stack
 
@@ -84,7 +87,10 @@ select distinct s =
     let sources = rest (rest s) in
     let value = rest (rest (rest s)) in
     let mark = rest (rest (rest (rest s))) in
-    Tree (tree.Select (the_mark mark).at (trees.select distinct (the_tree value) (the_entries sources) (the_filter filter) (the_order order))) ∷ rest mark
+    Tree
+    (tree.Select (the_mark mark).at
+    (trees.select distinct (the_tree value) (the_entries sources) (the_filter filter) (the_order order))) ∷
+    rest mark
 
 abbrev pub filter : Values → Values
 filter s = Filtered (Some (trees.filter (the_mark (rest s)).at (the_tree s))) ∷ rest (rest s)

@@ -12,7 +12,8 @@ use Rattle.qc_oql_tree.specs.Trees.{named}
 use Rattle.qc_oql_text.specs.declared.value.Mark as marks
 use Rattle.qc_oql_text.specs.declared.value.Word as words
 use Rattle.qc_oql_text.specs.declared.value.Value.{Value}
-use Rattle.qc_oql_text.specs.declared.value.Value.TheVariants.{Mark, Name, Divisor, Tree, Members, Entries, Keys, Filtered, Ordered}
+use Rattle.qc_oql_text.specs.declared.value.Value.TheVariants.{Mark, Name, Divisor, Tree, Members, Entries, Keys}
+use Rattle.qc_oql_text.specs.declared.value.Value.TheVariants.{Filtered, Ordered}
 
 -- the last value first
 abbrev pub Values : Type 0

@@ -4,4 +4,4 @@ use Rattle.qc_oql_tree.specs.Lexemes.{kind}
 use Rattle.qc_oql_text.proofs.reader.kinds.Given as goal
 
 abbrev pub invariant-loop-at : goal.invariant-loop-at
-invariant-loop-at l = l.kinds ≡ map kind (take l.at (lexemes l.words))
+invariant-loop-at l = (l.kinds ≡ map kind (take l.at (lexemes l.words))) × (length l.kinds ≡ l.at)
