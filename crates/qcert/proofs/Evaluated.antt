@@ -6,7 +6,7 @@ use Rattle.qc_data.specs.declared.halt.Halt.TheVariants as halt
 use Rattle.qc_data.specs.Encoding.{enc}
 use Rattle.qc_data.specs.Outcome.{any_size, bits64, Outcome, Value, Halts, Range as OutOfRange, Stuck, why_of}
 use Rattle.qc_lang.specs.Keeping.{IsOf}
-use Rattle.qc_types.specs.Schemas.{SchemaOf, WorldOf, is_world}
+use Rattle.qc_types.specs.Schemas.{WorldOf, is_world}
 use Rattle.qc_schema.specs.Writing.{text_of}
 use Rattle.qcert.specs.declared.sources.Checked.{Checked}
 use Rattle.qcert.specs.inner.Promises.{HasItsType}

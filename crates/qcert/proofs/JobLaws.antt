@@ -3,7 +3,6 @@ use Rattle.std.proofs.Common.{◌≡◌, ◌≢◌, ◌⊎◌, inl, inr, sym, �
 use Rattle.qc_data.specs.Decoding.{dec}
 use Rattle.qc_data.specs.declared.data.Datum.{Datum}
 use Rattle.qc_data.specs.declared.data.Json.{Json}
-use Rattle.qc_data.specs.Outcome.{Outcome}
 use Rattle.qc_io.specs.Device.{Texts}
 use Rattle.qc_types.specs.Schemas.{SchemaOf, WorldOf}
 use Rattle.qc_schema.specs.Inputs.{MeansWorld}
@@ -79,6 +78,11 @@ query_partial s schema bytes = record {
   one_fault = λ r q u v. v.3 ∙ ap of_query (one_fault s schema bytes v.0 u.0 v.1 u.1 v.2 u.2) ∙ sym u.3;
   apart = λ a r p u. u.1 (no_fault s schema bytes a u.0 p u.2);
 }
+
+-- an input is a world of its schema
+pub input_is_world : (schema : SchemaOf) (name : Option (List ℕ)) (texts : Option Texts) (w : WorldOf) → (input_of schema name).accepts texts w → w ≡ world_in schema w.datum
+input_is_world schema None texts w a = a.is_world
+input_is_world schema (Some name) texts w a = a.2.is_world
 
 -- ---- the files of jobs
 

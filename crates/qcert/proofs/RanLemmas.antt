@@ -10,7 +10,7 @@ use Rattle.qcert.specs.Jobs.{Subject, Job, Compile, job_of}
 use Rattle.qcert.specs.Ran.{IsEnding, no_job, of_job, Ran, HasAskedFor, nothing, its_files, IsServed, IsCompiled, IsServable, IsDue}
 use Rattle.qcert.specs.Ran as ran
 use Rattle.qcert.specs.Reading.{read, serve}
-use Rattle.qcert.specs.Steps.{Visit, HasFailed, Ended, MayEnd}
+use Rattle.qcert.specs.Steps.{Visit, HasFailed, MayEnd}
 use Rattle.qcert.specs.Work.{Gives, act}
 use Rattle.qcert.proofs.JobLaws.{reads_good, serve_lawful, clear_work}
 use Rattle.qcert.proofs.StepLaws.{complete as completed, refused as refused_for}
@@ -25,9 +25,6 @@ one_job words a b e f = cc
 
 no_text : (text : List ℕ) → Ok text ≡ Err Usage → ⊥
 no_text text e = cc
-
-one_refusal : (r q : Refusal) → Err {A = List ℕ} r ≡ Err q → r ≡ q
-one_refusal r q e = cc
 
 -- no refusal has the status of success
 fails : (r : Refusal) → status_of r ≡ 0 → ⊥

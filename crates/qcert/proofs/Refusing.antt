@@ -1,5 +1,5 @@
 -- Faults of the crates below, as causes to refuse.
-use Rattle.std.proofs.Common.{◌≡◌, ◌≢◌, ◌⊎◌, inl, inr, refl, ap, ◌∙◌, ℕ, List}
+use Rattle.std.proofs.Common.{◌≡◌, ◌⊎◌, inl, inr, refl, ap, ◌∙◌, ℕ, List}
 use Rattle.qc_data.specs.declared.data.Datum.{Datum}
 use Rattle.qc_types.specs.Classes.{Defs}
 use Rattle.qc_types.specs.declared.ty.Ty.{Ty}
@@ -16,7 +16,6 @@ use Rattle.qcert.specs.declared.refusal.Refusal.TheVariants.{Memory}
 use Rattle.qcert.specs.declared.sources.Source.{Source}
 use Rattle.qcert.specs.Causes.{of_schema, of_query, of_input}
 use Rattle.qcert.specs.Reading.{IsBadSchema, IsBadQuery, IsInput, IsBadInput}
-use Rattle.qcert.specs.Right.{world_in}
 use Rattle.qcert.specs.Sources.{IsFault}
 
 module _ (bytes : List ℕ) where

@@ -6,9 +6,9 @@ use Rattle.qc_io.specs.Device.{Texts, Rose, HasAsked, and_then_asked}
 use Rattle.qcert.specs.declared.refusal.File.{File}
 use Rattle.qcert.specs.declared.refusal.Refusal.{Refusal}
 use Rattle.qcert.specs.declared.refusal.Refusal.TheVariants.{Memory}
-use Rattle.qcert.specs.inner.Promises.{Stage, Computes, Acts}
+use Rattle.qcert.specs.inner.Promises.{Stage, Acts}
 use Rattle.qcert.specs.Files.{fetch, read_as}
-use Rattle.qcert.specs.Steps.{Step, Visit, Ended, MayEnd, firm, pure, then}
+use Rattle.qcert.specs.Steps.{Step, Visit, MayEnd, firm, pure, then}
 use Rattle.qcert.specs.Work.{Work, Gives, Refuses, IsClear, act}
 
 abbrev Names : Type 0

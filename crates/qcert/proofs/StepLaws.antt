@@ -42,7 +42,7 @@ module _ {A : Type 0} (t : Texts) (Accepts : A → Type 0) (Refuses : Refusal �
     firm_memory x r a (inr (inl u)) = absurd u
     firm_memory x r a (inr (inr e)) = e
 
-  firm_good : IsPartial Accepts Refuses → Good t (firm Accepts Refuses)
+  pub firm_good : IsPartial Accepts Refuses → Good t (firm Accepts Refuses)
   firm_good p = record {
     lawful = firm_lawful p.apart p.one_fault;
     one_value = p.one_value;

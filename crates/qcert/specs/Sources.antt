@@ -1,5 +1,5 @@
 -- Source languages behind one face: which query the bytes of a file spell, by source, and what a query means.
-use Rattle.std.specs.Prelude.{◌≢◌, ℕ, List}
+use Rattle.std.specs.Prelude.{ℕ, List}
 use Rattle.qc_data.specs.declared.data.Datum.{Datum}
 use Rattle.qc_data.specs.Outcome.{Mode, Outcome}
 use Rattle.qc_types.specs.declared.ty.Ty.{Ty}

@@ -76,7 +76,15 @@ fn with_schema<'a>(
         [option, schema, further @ ..] => {
             if option.as_str() == "--schema" {
                 let schema = Some(schema.as_str());
-                job_on(action, Subject { source, query, schema }, further)
+                job_on(
+                    action,
+                    Subject {
+                        source,
+                        query,
+                        schema,
+                    },
+                    further,
+                )
             } else {
                 job_on(action, bare, words)
             }

@@ -15,7 +15,7 @@ use qc_io::{Shelf, Sink};
 use std::alloc::Global;
 use std::rc::RcStr;
 
-/// Answers the words of a call, of which the first is the program's name, and gives the exit status.
+/// Serves the words of a call, of which the first is the program's name, and returns the exit status.
 ///
 /// The words are `qcert ACTION --source oql --query QUERY`, and then maybe `--schema SCHEMA`, and for `run` maybe
 /// `--input INPUT`. `check` asks for the type of the query in the file QUERY, in the schema of the file SCHEMA,

@@ -1,4 +1,4 @@
-// Why a call has no answer, and how that is told.
+// Why a call is refused, and its exit status.
 use qc_data::Memory;
 use qc_oql::QueryFault;
 use qc_schema::{InputFault, SchemaFault};
@@ -12,7 +12,7 @@ pub enum File {
     Script,
 }
 
-/// Why a call has no answer.
+/// Why a call is refused.
 #[derive(Clone, Copy, Debug, PartialEq, Eq)]
 pub enum Refusal {
     /// The words are no job.
@@ -35,9 +35,9 @@ pub enum Refusal {
     Unbuilt,
     /// The file has no input of the schema.
     BadInput,
-    /// An integer of the answer leaves 64 bits.
+    /// The query leaves 64 bits in the world of the input.
     Range,
-    /// The output took only a front of the answer.
+    /// The output took only a front of the text.
     WriteFault,
     /// Memory was wanting.
     Memory,

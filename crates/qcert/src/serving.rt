@@ -43,11 +43,7 @@ fn serve<S: Shelf>(alloc: Global, shelf: &mut S, job: &Job<'_>) -> Result<String
     }
 }
 
-fn check<S: Shelf>(
-    alloc: Global,
-    shelf: &mut S,
-    subject: &Subject<'_>,
-) -> Result<String, Refusal>
+fn check<S: Shelf>(alloc: Global, shelf: &mut S, subject: &Subject<'_>) -> Result<String, Refusal>
     ensures ended { Stage (serve (Check (subject_seen subject.now)))
         (visit S.texts S.faults S.asked shelf.old shelf.new) (result_map_both string_bytes (λ r. r) result) }
     ensures same { S.texts shelf.new ≡ S.texts shelf.old }
@@ -56,11 +52,7 @@ fn check<S: Shelf>(
     type_line(alloc, &checked)
 }
 
-fn compile<S: Shelf>(
-    alloc: Global,
-    shelf: &mut S,
-    subject: &Subject<'_>,
-) -> Result<String, Refusal>
+fn compile<S: Shelf>(alloc: Global, shelf: &mut S, subject: &Subject<'_>) -> Result<String, Refusal>
     ensures ended { Stage (serve (Compile (subject_seen subject.now)))
         (visit S.texts S.faults S.asked shelf.old shelf.new) (result_map_both string_bytes (λ r. r) result) }
     ensures same { S.texts shelf.new ≡ S.texts shelf.old }

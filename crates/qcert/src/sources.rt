@@ -1,6 +1,6 @@
 // The source languages behind one face.
 ghost use Rattle.std.specs.Prelude.{◌≡◌, ◌≤◌, length, IfOk, MatchResult};
-ghost use Rattle.qc_data.specs.Outcome.{bits64, Gives};
+ghost use Rattle.qc_data.specs.Outcome.{bits64, Gives as HasOutcome};
 ghost use Rattle.qcert.specs.Sources.{IsQuery, IsFault, meaning_of, type_of};
 ghost use Rattle.qcert.specs.inner.Promises.{HasItsType};
 
@@ -57,7 +57,7 @@ pub fn type_of(query: &Query) -> &Ty
 
 /// The query's outcome in 64 bits.
 pub fn evaluate(alloc: Global, query: &Query, world: &World) -> Result<Datum, Halt>
-    ensures { Gives (meaning_of query.now bits64 world.now) result }
+    ensures { HasOutcome (meaning_of query.now bits64 world.now) result }
 {
     match query {
         Query::Oql(typed) => qc_oql_eval::eval(alloc, &typed.query, world),

@@ -54,11 +54,7 @@ pub fn input_of<S: Shelf>(
 }
 
 // The schema: without a file, the one that has no classes and no globals.
-fn schema_of<S: Shelf>(
-    alloc: Global,
-    shelf: &mut S,
-    name: Option<&str>,
-) -> Result<Schema, Refusal>
+fn schema_of<S: Shelf>(alloc: Global, shelf: &mut S, name: Option<&str>) -> Result<Schema, Refusal>
     ensures ended { Stage (schema_of (option_copied name.entry))
         (visit S.texts S.faults S.asked shelf.old shelf.new) result }
     ensures same { S.texts shelf.new ≡ S.texts shelf.old }
@@ -116,12 +112,7 @@ fn input_file<S: Shelf>(
 }
 
 // The text of the file of this name, within the file's limit.
-fn fetch<S: Shelf>(
-    alloc: Global,
-    shelf: &mut S,
-    file: File,
-    name: &str,
-) -> Result<Vec<u8>, Refusal>
+fn fetch<S: Shelf>(alloc: Global, shelf: &mut S, file: File, name: &str) -> Result<Vec<u8>, Refusal>
     ensures ended { Stage (fetch file name.now) (visit S.texts S.faults S.asked shelf.old shelf.new)
         (result_map_both (λ bytes. bytes.items) (λ refusal. refusal) result) }
     ensures fits { IfOk result (λ bytes. length bytes.items ≤ most_of file) }

@@ -1,4 +1,4 @@
-use Rattle.std.proofs.Common.{◌≡◌, Some, None, map, rules}
+use Rattle.std.proofs.Common.{◌≡◌, Some, map, rules}
 use Rattle.std.specs.Rc.{rc_str_bytes}
 use Rattle.qcert.specs.Jobs.{job_of, job_seen}
 use Rattle.qcert.specs.Ran.{of_job}

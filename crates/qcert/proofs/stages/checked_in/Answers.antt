@@ -1,5 +1,5 @@
 use Rattle.std.proofs.lemmas.Result.{err_from_is_err_and}
-use Rattle.qcert.proofs.StageLemmas.{stops, goes, made, itself}
+use Rattle.qcert.proofs.StageLemmas.{stops, goes, made}
 use Rattle.qcert.proofs.stages.checked_in.Goals as goal
 
 pub returns-in_err-schema-clause-ended : goal.returns-in_err-schema-clause-ended

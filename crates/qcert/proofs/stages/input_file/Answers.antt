@@ -1,4 +1,4 @@
-use Rattle.std.proofs.Common.{subst, sym}
+use Rattle.std.proofs.Common.{sym}
 use Rattle.std.proofs.lemmas.Result.{err_from_is_err_and}
 use Rattle.qcert.proofs.StageLemmas.{unread, read}
 use Rattle.qcert.proofs.stages.input_file.Goals as goal

@@ -1,5 +1,3 @@
-use Rattle.std.proofs.Common.{◌≡◌, Some, None, rules}
-use Rattle.std.specs.Option.{option_copied}
 use Rattle.qcert.proofs.stages.schema_of.Goals as goal
 
 pub returns-in-Some-clause-ended : goal.returns-in-Some-clause-ended
