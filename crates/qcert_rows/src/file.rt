@@ -1,8 +1,10 @@
 // A file of rows.
+use crate::calls::try_run;
 use crate::compared::Compared;
 use crate::form::{self, Form};
-use crate::library::call_library;
+use crate::library::try_call;
 use crate::odd::Odd;
+use crate::operators::{try_type, try_value};
 use crate::report::Report;
 use crate::texts::Texts;
 use qc_data::Json;
@@ -12,6 +14,9 @@ use std::alloc::Global;
 /// The kind of a file's rows.
 #[derive(Clone, Copy)]
 enum Kind {
+    Calls,
+    Operators,
+    Types,
     Library,
 }
 
@@ -30,10 +35,12 @@ pub fn try_file<O: Sink>(alloc: Global, file: &Json, report: &mut Report<O>) -> 
 }
 
 fn kind_of(word: &str) -> Result<Kind, Odd> {
-    if word == "library" {
-        Ok(Kind::Library)
-    } else {
-        Err(Odd::Form)
+    match word {
+        "calls" => Ok(Kind::Calls),
+        "operators" => Ok(Kind::Operators),
+        "types" => Ok(Kind::Types),
+        "library" => Ok(Kind::Library),
+        _ => Err(Odd::Form),
     }
 }
 
@@ -41,6 +48,9 @@ fn try_row(alloc: Global, kind: Kind, texts: &Texts, row: &Json) -> Result<Compa
     let mut form = Form::of(row)?;
     let _name = form.word("row")?;
     match kind {
-        Kind::Library => call_library(alloc, texts, &mut form),
+        Kind::Calls => try_run(alloc, texts, &mut form),
+        Kind::Operators => try_value(alloc, &mut form),
+        Kind::Types => try_type(alloc, &mut form),
+        Kind::Library => try_call(alloc, texts, &mut form),
     }
 }

@@ -18,7 +18,7 @@ impl<'a> Form<'a> {
         }
     }
 
-    /// Takes a member that may be left out.
+    /// Takes a member that may be left out. Each is to be asked for once.
     pub fn maybe(&mut self, name: &str) -> Option<&'a Json> {
         let found = self.members.get(name)?;
         self.taken = self.taken.saturating_add(1);
@@ -36,6 +36,11 @@ impl<'a> Form<'a> {
     /// Takes a member that is a text.
     pub fn word(&mut self, name: &str) -> Result<&'a Chars, Odd> {
         word(self.member(name)?)
+    }
+
+    /// Takes a member that is an array.
+    pub fn items(&mut self, name: &str) -> Result<&'a [Json], Odd> {
+        items(self.member(name)?)
     }
 
     /// Sees that each member was taken.
@@ -92,8 +97,16 @@ pub fn items(json: &Json) -> Result<&[Json], Odd> {
 /// The two items of the array that the tree is.
 pub fn pair(json: &Json) -> Result<(&Json, &Json), Odd> {
     let items = items(json)?;
-    match (items.get(0), items.get(1)) {
-        (Some(first), Some(second)) if items.len() == 2 => Ok((first, second)),
+    if items.len() != 2 {
+        return Err(Odd::Form);
+    }
+    Ok((&items[0], &items[1]))
+}
+
+/// The members of the object that the tree is.
+pub fn members(json: &Json) -> Result<&[(Chars, Json)], Odd> {
+    match json {
+        Json::Object(members) => Ok(members.as_slice()),
         _ => Err(Odd::Form),
     }
 }

@@ -1,31 +1,32 @@
 // Rows that call a function of the libraries.
-use crate::compared::{Compared, fault, plain, told, tree};
+use crate::bytes;
+use crate::compared::Compared;
 use crate::form::Form;
 use crate::odd::Odd;
+use crate::telling::try_fault_text;
 use crate::texts::Texts;
-use qc_schema::{InputFault, read_json};
+use crate::values;
 use std::alloc::Global;
 
-/// Makes the call of the row.
-pub fn call_library(alloc: Global, texts: &Texts, row: &mut Form) -> Result<Compared, Odd> {
-    let call = row.word("call")?.as_str();
-    if call == "read_json" {
-        return reads_json(alloc, texts, row);
+/// Makes the call that the row names.
+pub fn try_call(alloc: Global, texts: &Texts, row: &mut Form) -> Result<Compared, Odd> {
+    match row.word("call")?.as_str() {
+        "read_json" => bytes::try_read_json(alloc, texts, row),
+        "read_schema" => bytes::try_read_schema(alloc, texts, row),
+        "read_input" => bytes::try_read_input(alloc, texts, row),
+        "name" => bytes::try_name(alloc, texts, row),
+        "like" => bytes::try_like(alloc, texts, row),
+        "scan" => bytes::try_scan(alloc, texts, row),
+        "query" => bytes::try_query(alloc, texts, row),
+        "fits" => values::try_fits(alloc, row),
+        "subtype" => values::try_subtype(alloc, row),
+        "join" => values::try_join(alloc, row),
+        "classes" => values::try_classes(alloc, row),
+        "cmp" => values::try_cmp(alloc, row),
+        "same" => values::try_same(alloc, row),
+        "canon" => values::try_canon(alloc, row),
+        "dec" => values::try_dec(alloc, row),
+        "fault_text" => try_fault_text(alloc, texts, row),
+        _ => Err(Odd::Form),
     }
-    Err(Odd::Form)
-}
-
-fn reads_json(alloc: Global, texts: &Texts, row: &mut Form) -> Result<Compared, Odd> {
-    let bytes = texts.bytes(alloc, row.member("text")?)?;
-    let wanted = match row.maybe("tree") {
-        Some(text) => told(alloc, "tree", texts.text(alloc, text)?.as_str())?,
-        None => fault(alloc, row.word("fault")?.as_str())?,
-    };
-    row.end()?;
-    let came = match read_json(alloc, &bytes) {
-        Ok(json) => tree(alloc, &json)?,
-        Err(InputFault::BadInput) => fault(alloc, "BadInput")?,
-        Err(InputFault::Memory) => return Err(Odd::Memory),
-    };
-    Ok(Compared { wanted, came })
 }

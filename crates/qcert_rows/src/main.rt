@@ -1,13 +1,22 @@
 //! The program that tries files of rows: calls, and what each has to give.
 #![tactic(auto)]
 
+mod bytes;
+mod calls;
 mod compared;
 mod file;
 mod form;
 mod library;
+mod names;
+mod noting;
 mod odd;
+mod op;
+mod operators;
 mod report;
+mod telling;
 mod texts;
+mod values;
+mod wanted;
 
 use crate::file::try_file;
 use crate::odd::Odd;

@@ -1,7 +1,7 @@
 // The texts of a file, which are laid together of pieces.
-use crate::form::{self, Form};
+use crate::form;
 use crate::odd::Odd;
-use qc_data::Json;
+use qc_data::{Json, Members};
 use std::alloc::Global;
 
 /// A text with its name.
@@ -23,12 +23,10 @@ impl<'a> Texts<'a> {
         let mut texts = Texts {
             named: Vec::new(alloc),
         };
-        let members = match json {
-            None => return Ok(texts),
-            Some(Json::Object(members)) => members,
-            Some(_) => return Err(Odd::Form),
+        let Some(json) = json else {
+            return Ok(texts);
         };
-        for member in members.as_slice() {
+        for member in form::members(json)? {
             let text = texts.bytes(alloc, &member.1)?;
             let name = member.0.as_str();
             texts.named.push(Named { name, text })?;
@@ -52,6 +50,51 @@ impl<'a> Texts<'a> {
         }
     }
 
+    // Lays the text behind what is there.
+    #[cycle(lay)]
+    fn lay(&self, alloc: Global, json: &Json, into: &mut Vec<u8>) -> Result<(), Odd> {
+        match json {
+            Json::Text(text) => lay_bytes(text.as_str().as_bytes(), into),
+            Json::Array(pieces) => {
+                for piece in pieces.as_slice() {
+                    self.lay(alloc, piece, into)?;
+                }
+                Ok(())
+            }
+            Json::Object(members) => self.lay_object(alloc, members, into),
+            _ => Err(Odd::Form),
+        }
+    }
+
+    #[cycle(lay)]
+    fn lay_object(
+        &self,
+        alloc: Global,
+        members: &Members,
+        into: &mut Vec<u8>,
+    ) -> Result<(), Odd> {
+        let pairs = members.as_slice();
+        if pairs.len() == 1 {
+            return self.lay_one(pairs[0].0.as_str(), &pairs[0].1, into);
+        }
+        if pairs.len() != 2 || !repeats(pairs[0].0.as_str(), pairs[1].0.as_str()) {
+            return Err(Odd::Form);
+        }
+        let mut once = Vec::new(alloc);
+        self.lay(alloc, &pairs[0].1, &mut once)?;
+        lay_often(&once, form::count(&pairs[1].1)?, into)
+    }
+
+    fn lay_one(&self, name: &str, json: &Json, into: &mut Vec<u8>) -> Result<(), Odd> {
+        if name == "named" {
+            return lay_bytes(self.find(form::word(json)?.as_str())?, into);
+        }
+        if name == "bytes" {
+            return lay_numbers(form::items(json)?, into);
+        }
+        Err(Odd::Form)
+    }
+
     fn find(&self, name: &str) -> Result<&[u8], Odd> {
         for named in &self.named {
             if named.name == name {
@@ -60,41 +103,15 @@ impl<'a> Texts<'a> {
         }
         Err(Odd::Form)
     }
+}
 
-    // Lays the text behind what is there.
-    #[cycle(lay)]
-    fn lay(&self, alloc: Global, json: &Json, into: &mut Vec<u8>) -> Result<(), Odd> {
-        match json {
-            Json::Text(text) => Ok(into.extend_from_slice(text.as_str().as_bytes())?),
-            Json::Array(pieces) => {
-                for piece in pieces.as_slice() {
-                    self.lay(alloc, piece, into)?;
-                }
-                Ok(())
-            }
-            Json::Object(_) => self.lay_object(alloc, json, into),
-            _ => Err(Odd::Form),
-        }
-    }
+fn repeats(first: &str, second: &str) -> bool {
+    first == "repeat" && second == "times"
+}
 
-    #[cycle(lay)]
-    fn lay_object(&self, alloc: Global, json: &Json, into: &mut Vec<u8>) -> Result<(), Odd> {
-        let mut form = Form::of(json)?;
-        if let Some(piece) = form.maybe("repeat") {
-            let times = form::count(form.member("times")?)?;
-            form.end()?;
-            let mut once = Vec::new(alloc);
-            self.lay(alloc, piece, &mut once)?;
-            return lay_often(&once, times, into);
-        }
-        if let Some(bytes) = form.maybe("bytes") {
-            form.end()?;
-            return lay_bytes(form::items(bytes)?, into);
-        }
-        let name = form.word("named")?;
-        form.end()?;
-        Ok(into.extend_from_slice(self.find(name.as_str())?)?)
-    }
+fn lay_bytes(bytes: &[u8], into: &mut Vec<u8>) -> Result<(), Odd> {
+    into.extend_from_slice(bytes)?;
+    Ok(())
 }
 
 fn lay_often(once: &[u8], times: u64, into: &mut Vec<u8>) -> Result<(), Odd> {
@@ -104,7 +121,7 @@ fn lay_often(once: &[u8], times: u64, into: &mut Vec<u8>) -> Result<(), Odd> {
     Ok(())
 }
 
-fn lay_bytes(bytes: &[Json], into: &mut Vec<u8>) -> Result<(), Odd> {
+fn lay_numbers(bytes: &[Json], into: &mut Vec<u8>) -> Result<(), Odd> {
     for byte in bytes {
         match u8::try_from(form::integer(byte)?) {
             Ok(byte) => into.push(byte)?,
