@@ -4,7 +4,7 @@ use crate::form::{self, Form};
 use crate::noting::NotingShelf;
 use crate::odd::Odd;
 use crate::texts::Texts;
-use crate::wanted::{told_outcome, wanted};
+use crate::wanted::{read_wanted, told_outcome};
 use qc_data::Json;
 use qc_io::{MemShelf, MemSink};
 use std::alloc::Global;
@@ -31,7 +31,7 @@ pub fn try_run(alloc: Global, texts: &Texts, row: &mut Form) -> Result<Compared,
     }
     let mut out = sink(alloc, row, "room", ROOM, "put_fails")?;
     let mut err = sink(alloc, row, "err_room", ERR_ROOM, "err_fails")?;
-    let wanted = wanted(alloc, texts, row)?;
+    let wanted = read_wanted(alloc, texts, row)?;
     row.end()?;
     let mut shelf = NotingShelf::new(alloc, shelf);
     let status = qcert::run(alloc, &words, &mut shelf, &mut out, &mut err);

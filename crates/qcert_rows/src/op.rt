@@ -14,7 +14,7 @@ pub enum Op {
 }
 
 /// Takes the row's operator with its parameters.
-pub fn op(alloc: Global, row: &mut Form) -> Result<Op, Odd> {
+pub fn read_op(alloc: Global, row: &mut Form) -> Result<Op, Odd> {
     let word = row.word("op")?.as_str();
     if let Some(plain) = plain_unary(word) {
         return Ok(Op::One(plain));

@@ -3,7 +3,7 @@ use crate::compared::{Compared, plain, told, told_datum, told_type};
 use crate::form::{self, Form};
 use crate::names::{datum, good_classes, ty};
 use crate::odd::Odd;
-use crate::op::{Op, op};
+use crate::op::{Op, read_op};
 use qc_data::{Datum, Halt, Json};
 use qc_ops::{apply1, apply2};
 use qc_types::{Classes, Ty};
@@ -12,7 +12,7 @@ use std::alloc::Global;
 
 /// Applies the row's operator to its operands.
 pub fn try_value(alloc: Global, row: &mut Form) -> Result<Compared, Odd> {
-    let op = op(alloc, row)?;
+    let op = read_op(alloc, row)?;
     let operands = row.items("operands")?;
     let classes = good_classes(alloc, row)?;
     let wanted = match row.maybe("value") {
@@ -51,7 +51,7 @@ fn value(
 
 /// Asks for the type that the row's operator gives on operands of its types.
 pub fn try_type(alloc: Global, row: &mut Form) -> Result<Compared, Odd> {
-    let op = op(alloc, row)?;
+    let op = read_op(alloc, row)?;
     let operands = row.items("operands")?;
     let classes = good_classes(alloc, row)?;
     let wanted = wanted_type(alloc, row)?;

@@ -16,7 +16,7 @@ pub struct Wanted {
 }
 
 /// Takes what the row wants: an answer, a fault, or all that is written.
-pub fn wanted(alloc: Global, texts: &Texts, row: &mut Form) -> Result<Wanted, Odd> {
+pub fn read_wanted(alloc: Global, texts: &Texts, row: &mut Form) -> Result<Wanted, Odd> {
     let (status, out, err) = if let Some(answer) = row.maybe("answer") {
         (0, line(alloc, "", texts, answer)?, Vec::new(alloc))
     } else if let Some(fault) = row.maybe("fault") {
