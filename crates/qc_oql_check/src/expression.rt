@@ -8,6 +8,7 @@ ghost use Rattle.qc_oql_tree.specs.FormTypings as form;
 ghost use Rattle.qc_oql_tree.specs.OperatorTypes.{branded_type, divided_type, field_type, one_type, two_type};
 ghost use Rattle.qc_oql_tree.specs.PartTypes.{sides_of};
 ghost use Rattle.qc_oql_check.specs.inner.Scopes.{ChecksAs, field_types, onto, types_of};
+ghost use Rattle.qc_oql_check.specs.inner.Selected.{by_parts};
 ghost use Rattle.qc_oql_tree.specs.Typing as typing;
 ghost use Rattle.qc_typing.specs.Checking.{and_check, each_checked, need, or_fault, Checks};
 ghost use Rattle.qc_typing.specs.Kinds.{when};
@@ -416,9 +417,8 @@ fn typed_fields<'a>(
 
 // A collection of the values of a select.
 #[cycle(typing)]
-#[tactic(auto, using(crate::proofs::Forms::select_is))]
 fn selected(alloc: Global, schema: &Schema, scope: &Scope, select: &Select) -> Result<Ty, TypeFault>
-    ensures { Checks (typing.select_type schema.now select.now (types_of scope.now)) result }
+    ensures { Checks (by_parts schema.now select.now (types_of scope.now)) result }
 {
     let row = bound_row(alloc, schema, scope, select.sources.as_slice())?;
     let inner = Scope::Row(row.as_slice(), &*scope);

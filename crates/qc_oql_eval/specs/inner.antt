@@ -1,5 +1,6 @@
-pub mod Scopes
 pub mod Columns
-pub mod Rows
 pub mod Held
+pub mod Rows
+pub mod Scopes
+pub mod Selected
 pub mod SortKinds

@@ -3,6 +3,7 @@ ghost use Rattle.std.specs.Prelude.{◌++◌, map, option_map};
 ghost use Rattle.qc_data.specs.Outcome.{bits64, each, gather, Gives};
 ghost use Rattle.qc_ops.specs.Columns.{behind, GivesRefs};
 ghost use Rattle.qc_oql_eval.specs.inner.Scopes.{bindings_of};
+ghost use Rattle.qc_oql_eval.specs.inner.Selected.{by_parts};
 ghost use Rattle.qc_oql_tree.specs.Meaning as meaning;
 ghost use Rattle.qc_oql_eval.specs.inner.Rows.{GivesKept, GivesKeyed, GivesOneKeyed};
 ghost use Rattle.qc_oql_tree.specs.SelectMeaning as selecting;
@@ -19,14 +20,13 @@ use std::alloc::Global;
 
 // The values of a select: of its rows, those that the condition keeps, in order.
 #[cycle(eval)]
-#[tactic(auto, using(qc_oql_tree::proofs::MeaningForms::select_is))]
 pub(crate) fn selected(
     alloc: Global,
     world: &World,
     scope: &Scope,
     select: &Select,
 ) -> Result<Datum, Halt>
-    ensures { Gives (meaning.select bits64 world.now select.now (bindings_of scope.now)) result }
+    ensures { Gives (by_parts bits64 world.now select.now (bindings_of scope.now)) result }
 {
     let rows = rows_of(alloc, world, scope, select.sources.as_slice())?;
     let kept = filtered(alloc, world, scope, &select.filter, rows.as_slice())?;

@@ -1,11 +1,11 @@
-use Rattle.std.proofs.Common.{◌≡◌, rules}
+use Rattle.std.proofs.Common.{◌≡◌, ◌∙◌, rules}
 use Rattle.qc_data.specs.Outcome.{bits64}
 use Rattle.qc_oql_tree.specs.declared.tree.Oql.TheVariants as tree
 use Rattle.qc_ops.specs.Columns.{behind}
 use Rattle.qc_oql_eval.specs.inner.Scopes.{bindings_of}
 use Rattle.qc_oql_eval.specs.inner.Rows.{keyed_rows}
 use Rattle.qc_oql_eval.proofs.Arms.{arm}
-use Rattle.qc_oql_tree.proofs.MeaningForms.{oql-Struct, oql-Bag, oql-Select}
+use Rattle.qc_oql_tree.proofs.MeaningForms.{oql-Struct, oql-Bag, oql-Select, select_is}
 use Rattle.qc_oql_eval.proofs.Keys.{layers, ordered_by_is}
 use Rattle.qc_oql_eval.proofs.+eval.Goals as goal
 
@@ -22,7 +22,7 @@ expression::outcome-returns-in-Bag t c =
 pub expression::outcome-returns : goal.expression::outcome-returns
 expression::outcome-returns t c =
     let is : c.args.of.now ≡ tree.Select c.in-Select.field-0 c.get-in-Select.result.now = search (rules, layers) in
-    arm bits64 c.args.world.now (bindings_of c.args.scope.now) c.args.of.now (tree.Select c.in-Select.field-0 c.get-in-Select.result.now) _ c.selected.result is (oql-Select bits64 c.args.world.now c.in-Select.field-0 c.get-in-Select.result.now) c.selected.ensures
+    arm bits64 c.args.world.now (bindings_of c.args.scope.now) c.args.of.now (tree.Select c.in-Select.field-0 c.get-in-Select.result.now) _ c.selected.result is (oql-Select bits64 c.args.world.now c.in-Select.field-0 c.get-in-Select.result.now ∙ select_is bits64 c.args.world.now c.get-in-Select.result.now) c.selected.ensures
 
 pub selecting::ordered_by-returns : goal.selecting::ordered_by-returns
 selecting::ordered_by-returns t c = rw (ordered_by_is bits64 c.args.world.now c.args.keys.now (bindings_of c.args.scope.now) (behind c.args.rows.now) (keyed_rows c.in_ok-keyed.keyed.items) c.in_ok-keyed.ensures) c.in_order.ensures

@@ -1,10 +1,10 @@
-use Rattle.std.proofs.Common.{◌≡◌, arith, rules}
+use Rattle.std.proofs.Common.{◌≡◌, ◌∙◌, arith, rules}
 use Rattle.qc_oql_tree.specs.declared.tree.Oql.TheVariants as tree
 use Rattle.qc_oql_check.specs.inner.Scopes.{types_of}
 use Rattle.qc_oql_check.proofs.Arms.{arm}
 use Rattle.qc_oql_check.proofs.Binding.{bound_more}
 use Rattle.qc_oql_check.proofs.Forms.{layers, oql-Name, oql-Struct, oql-Bag, oql-Unary, oql-Divide, oql-Like, oql-Dot}
-use Rattle.qc_oql_check.proofs.Forms.{oql-Brand, oql-Select}
+use Rattle.qc_oql_check.proofs.Forms.{oql-Brand, oql-Select, select_is}
 use Rattle.qc_oql_check.proofs.expression.+typing.Goals as goal
 
 pub type_of-returns-in-Name : goal.type_of-returns-in-Name
@@ -50,7 +50,7 @@ type_of-returns-in-Brand t c =
 pub type_of-returns-in-Select : goal.type_of-returns-in-Select
 type_of-returns-in-Select t c =
     let is : c.args.of.now ≡ tree.Select c.in-Select.field-0 c.get-in-Select.result.now = search (rules, layers) in
-    arm c.args.schema.now (types_of c.args.scope.now) c.args.of.now (tree.Select c.in-Select.field-0 c.get-in-Select.result.now) _ c.selected.result is (oql-Select c.args.schema.now c.in-Select.field-0 c.get-in-Select.result.now) c.selected.ensures
+    arm c.args.schema.now (types_of c.args.scope.now) c.args.of.now (tree.Select c.in-Select.field-0 c.get-in-Select.result.now) _ c.selected.result is (oql-Select c.args.schema.now c.in-Select.field-0 c.get-in-Select.result.now ∙ select_is c.args.schema.now c.get-in-Select.result.now) c.selected.ensures
 
 pub bound_row-loop-source-preserved : goal.bound_row-loop-source-preserved
 bound_row-loop-source-preserved t c =
