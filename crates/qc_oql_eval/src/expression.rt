@@ -7,7 +7,7 @@ ghost use Rattle.qc_oql_eval.specs.inner.Scopes.{bindings_of};
 ghost use Rattle.qc_oql_tree.specs.FormMeanings as form;
 ghost use Rattle.qc_oql_eval.specs.inner.Held.{GivesHeld};
 ghost use Rattle.qc_oql_tree.specs.Meaning as meaning;
-ghost use Rattle.qc_oql_tree.specs.OperatorMeanings.{after, branded, divided, of_two, one_value, or_else_of};
+ghost use Rattle.qc_oql_tree.specs.OperatorMeanings.{after, branded, divided, one_value, or_else_of};
 
 use crate::operands::{bool_of, name_of};
 use crate::operators::{branded, divided, field, likeness, one_value, paired};
@@ -17,12 +17,13 @@ use crate::record::record_of;
 use crate::scope::{Scope, value_of};
 use crate::selecting::selected;
 use qc_data::{Chars, Datum, Halt, Items, copy};
-use qc_oql_tree::{Binary, Branding, Constant, Division, Named, Oql, Unary, pairing_of};
+use qc_oql_tree::{Branding, Constant, Division, Named, Oql, Unary, pairing_of};
 use qc_types::World;
 use std::alloc::Global;
 
 // The outcome of an expression.
 #[cycle(eval)]
+#[tactic(auto, using(qc_oql_tree::proofs::Pairings::two_is))]
 pub(crate) fn outcome(alloc: Global, world: &World, scope: &Scope, of: &Oql) -> Result<Datum, Halt>
     ensures { Gives (meaning.oql bits64 world.now of.now (bindings_of scope.now)) result }
 {
@@ -35,7 +36,14 @@ pub(crate) fn outcome(alloc: Global, world: &World, scope: &Scope, of: &Oql) -> 
         Oql::Bag(_, members) => collected(alloc, world, scope, members.as_slice()),
         Oql::Unary(_, operator, a) => of_one(alloc, world, scope, *operator, a.get()),
         Oql::Binary(_, operator, a, b) => {
-            of_two(alloc, world, scope, *operator, a.get(), b.get())
+            let left = outcome(alloc, world, scope, a.get())?;
+            match pairing_of(*operator) {
+                Some(pairing) => {
+                    let right = outcome(alloc, world, scope, b.get())?;
+                    paired(alloc, world.classes(), pairing, &left, &right)
+                }
+                None => or_else(alloc, world, scope, b.get(), &left),
+            }
         }
         Oql::Divide(_, division, a, k) => of_division(alloc, world, scope, *division, a.get(), *k),
         Oql::Like(_, a, pattern) => of_like(alloc, world, scope, a.get(), pattern),
@@ -144,30 +152,6 @@ fn of_one(
 {
     let x = operand(alloc, &*world, &*scope, a)?;
     one_value(alloc, world.classes(), operator, x.get())
-}
-
-// An operator of two operands, the left one first.
-#[cycle(eval)]
-#[tactic(auto, using(qc_oql_tree::proofs::Pairings::two_is))]
-fn of_two(
-    alloc: Global,
-    world: &World,
-    scope: &Scope,
-    operator: Binary,
-    a: &Oql,
-    b: &Oql,
-) -> Result<Datum, Halt>
-    ensures { Gives (of_two bits64 operator (meaning.oql bits64 world.now a.now) (meaning.oql bits64 world.now b.now)
-        (bindings_of scope.now)) result }
-{
-    let left = outcome(alloc, world, scope, a)?;
-    match pairing_of(operator) {
-        Some(pairing) => {
-            let right = outcome(alloc, world, scope, b)?;
-            paired(alloc, world.classes(), pairing, &left, &right)
-        }
-        None => or_else(alloc, world, scope, b, &left),
-    }
 }
 
 // The content of a left value, or else the value of the other operand.
