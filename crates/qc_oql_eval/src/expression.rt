@@ -1,6 +1,6 @@
 // The outcome of expressions in 64 bits.
 ghost use Rattle.std.specs.Prelude.{◌≡◌, map};
-ghost use Rattle.qc_data.specs.Outcome.{bits64, Gives};
+ghost use Rattle.qc_data.specs.Outcome.{and_then, bits64, Gives};
 ghost use Rattle.qc_ops.specs.Records.{field};
 ghost use Rattle.qc_ops.specs.Texts.{likeness};
 ghost use Rattle.qc_oql_eval.specs.inner.Scopes.{bindings_of};
@@ -8,6 +8,7 @@ ghost use Rattle.qc_oql_tree.specs.FormMeanings as form;
 ghost use Rattle.qc_oql_eval.specs.inner.Held.{GivesHeld};
 ghost use Rattle.qc_oql_tree.specs.Meaning as meaning;
 ghost use Rattle.qc_oql_tree.specs.OperatorMeanings.{after, branded, divided, one_value, or_else_of};
+ghost use Rattle.qc_oql_tree.specs.inner.Pairings.{paired};
 
 use crate::operands::{bool_of, name_of};
 use crate::operators::{branded, divided, field, likeness, one_value, paired};
@@ -17,7 +18,7 @@ use crate::record::record_of;
 use crate::scope::{Scope, value_of};
 use crate::selecting::selected;
 use qc_data::{Chars, Datum, Halt, Items, copy};
-use qc_oql_tree::{Branding, Constant, Division, Named, Oql, Unary, pairing_of};
+use qc_oql_tree::{Branding, Constant, Division, Named, Oql, Pairing, Unary, pairing_of};
 use qc_types::World;
 use std::alloc::Global;
 
@@ -38,10 +39,7 @@ pub(crate) fn outcome(alloc: Global, world: &World, scope: &Scope, of: &Oql) -> 
         Oql::Binary(_, operator, a, b) => {
             let left = outcome(alloc, world, scope, a.get())?;
             match pairing_of(*operator) {
-                Some(pairing) => {
-                    let right = outcome(alloc, world, scope, b.get())?;
-                    paired(alloc, world.classes(), pairing, &left, &right)
-                }
+                Some(pairing) => with_left(alloc, world, scope, pairing, b.get(), &left),
                 None => or_else(alloc, world, scope, b.get(), &left),
             }
         }
@@ -152,6 +150,23 @@ fn of_one(
 {
     let x = operand(alloc, &*world, &*scope, a)?;
     one_value(alloc, world.classes(), operator, x.get())
+}
+
+// The value of an operator on a left operand's value and the right operand.
+#[cycle(eval)]
+fn with_left(
+    alloc: Global,
+    world: &World,
+    scope: &Scope,
+    pairing: Pairing,
+    right: &Oql,
+    left: &Datum,
+) -> Result<Datum, Halt>
+    ensures { Gives (and_then (meaning.oql bits64 world.now right.now (bindings_of scope.now))
+        (λ y. paired bits64 pairing left.now y)) result }
+{
+    let right = outcome(alloc, world, scope, right)?;
+    paired(alloc, world.classes(), pairing, left, &right)
 }
 
 // The content of a left value, or else the value of the other operand.
