@@ -4,7 +4,7 @@ use Rattle.qc_oql_tree.specs.declared.tree.Oql.TheVariants as tree
 use Rattle.qc_ops.specs.Columns.{behind}
 use Rattle.qc_oql_eval.specs.inner.Scopes.{bindings_of}
 use Rattle.qc_oql_eval.specs.inner.Rows.{keyed_rows}
-use Rattle.qc_oql_eval.proofs.Arms.{arm}
+use Rattle.qc_oql_eval.proofs.Arms.{arm, binary_arm}
 use Rattle.qc_oql_tree.proofs.MeaningForms.{oql-Struct, oql-Bag, oql-Select, select_is}
 use Rattle.qc_oql_eval.proofs.Keys.{layers, ordered_by_is}
 use Rattle.qc_oql_eval.proofs.+eval.Goals as goal
@@ -26,3 +26,8 @@ expression::outcome-returns t c =
 
 pub selecting::ordered_by-returns : goal.selecting::ordered_by-returns
 selecting::ordered_by-returns t c = rw (ordered_by_is bits64 c.args.world.now c.args.keys.now (bindings_of c.args.scope.now) (behind c.args.rows.now) (keyed_rows c.in_ok-keyed.keyed.items) c.in_ok-keyed.ensures) c.in_order.ensures
+
+pub expression::outcome-returns-in-Some : goal.expression::outcome-returns-in-Some
+expression::outcome-returns-in-Some t c =
+    let is : c.args.of.now ≡ tree.Binary c.in-Binary.field-0 c.in-Binary.operator c.get-in-Binary.result.now c.get-in-Some.result.now = search (rules, layers) in
+    binary_arm bits64 c.args.world.now (bindings_of c.args.scope.now) c.args.of.now c.in-Binary.field-0 c.in-Binary.operator c.get-in-Binary.result.now c.get-in-Some.result.now c.in-Some.pairing c.in_ok-left-in-Binary.left c.with_left.result is c.in-Some.ensures c.in_ok-left-in-Binary.ensures c.with_left.ensures
