@@ -15,7 +15,7 @@ import tempfile
 
 from queries import CHECKS
 
-CRATES = ["qc_data", "qc_io", "qc_types", "qc_lex", "qc_grammar", "qc_oql_tree", "qc_oql_text"]
+CRATES = ["qc_data", "qc_io", "qc_lex", "qc_grammar", "qc_oql_tree", "qc_oql_text"]
 MAIN = """//! Parses the query in the file `query`, so often as the one word says, and prints how often it had a tree.
 #![tactic(auto)]
 
@@ -47,13 +47,25 @@ fn main(rt: HostRuntime) {
 """
 
 
+def below(lines, names):
+    """The named crates and those that they stand on, by the lines of a crates.txt."""
+    needs = {line.split(":")[0]: line.split(":")[1].split() for line in lines}
+    found = set()
+    while not found.issuperset(names):
+        found |= set(names)
+        names = [need for name in names for need in needs[name] if need in needs]
+    return found
+
+
 def program(folder, top, command):
     """The words that run the program, which is made in the folder of the crates of a checkout."""
-    lines = [line for line in (top / "crates.txt").read_text().splitlines() if line.split(":")[0] in CRATES]
-    lines.append("bench_parsing: qc_data qc_io qc_lex qc_grammar qc_oql_tree qc_oql_text")
+    lines = (top / "crates.txt").read_text().splitlines()
+    needed = below(lines, CRATES)
+    lines = [line for line in lines if line.split(":")[0] in needed]
+    lines.append("bench_parsing: " + " ".join(sorted(needed)))
     (folder / "crates.txt").write_text("\n".join(lines) + "\n")
     shutil.copy(top / "HANDLES", folder)
-    for crate in CRATES:
+    for crate in sorted(needed):
         shutil.copytree(top / "crates" / crate, folder / "crates" / crate, ignore=shutil.ignore_patterns("out"))
     crate = folder / "crates" / "bench_parsing"
     (crate / "src").mkdir(parents=True)
