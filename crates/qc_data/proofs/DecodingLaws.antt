@@ -1,9 +1,10 @@
 -- What decoding is at each kind of tree, and of names among it.
-use Rattle.std.proofs.Common.{◌≡◌, ℕ, ℤ, List, [], ◌∷◌, map, Bool, true, false, Option, Some, option_map, refl, sym, ap, ◌∙◌}
+use Rattle.std.proofs.Common.{◌≡◌, ℕ, ℤ, List, [], ◌∷◌, map, Bool, true, false, Option, Some, option_map, refl, sym, ap}
+use Rattle.std.proofs.Common.{◌∙◌}
 use Rattle.std.specs.Prelude.{codes, not}
 use Rattle.std.specs.Str.{bytes_eq}
-use Rattle.qc_data.specs.Name.{is_name, is_marker}
-use Rattle.qc_data.specs.Rising.{on_value}
+use Rattle.qc_containers.specs.Name.{is_name, is_marker}
+use Rattle.qc_containers.specs.Rising.{on_value}
 use Rattle.qc_data.specs.Decoding.{dec, dec_step, items_of, object_of, plain, name_of}
 use Rattle.qc_data.specs.declared.data.Datum.{Datum}
 use Rattle.qc_data.specs.declared.data.Datum.TheVariants as D
@@ -12,7 +13,7 @@ use Rattle.qc_data.specs.declared.data.Json.TheOpen.{Json-F}
 use Rattle.qc_data.specs.declared.data.Json.TheViews.{roll-Json}
 use Rattle.qc_data.specs.declared.data.Json.TheFolds.{map-Json, fold-roll-Json}
 use Rattle.qc_data.specs.declared.data.Json.TheVariants as J
-use Rattle.qc_data.proofs.Truth.{and_parts, or_none, not_true}
+use Rattle.qc_containers.proofs.Truth.{and_parts, or_none, not_true}
 
 pub dec-roll : (x : Json-F Json) → dec (roll-Json x) ≡ dec_step (map-Json Json (Option Datum) dec x)
 dec-roll x = fold-roll-Json (Option Datum) dec_step x
@@ -51,7 +52,8 @@ unmarked s h =
     record { left = r.0; right = u.0; class = v.0 }
 
 -- an object whose first name is no marker is a record
-pub plain_is : (ps : List (List ℕ × Option Datum)) (n : List ℕ) (o : Option Datum) → is_name n ≡ true → object_of ((n, o) ∷ ps) ≡ plain ((n, o) ∷ ps)
+pub plain_is : (ps : List (List ℕ × Option Datum)) (n : List ℕ) (o : Option Datum) → is_name n ≡ true
+    → object_of ((n, o) ∷ ps) ≡ plain ((n, o) ∷ ps)
 plain_is [] n o h = let u = unmarked n h in rw (u.left, u.right) refl
 plain_is (q ∷ []) n o h = let u = unmarked n h in rw u.class refl
 plain_is (q ∷ r ∷ ps) n o h = refl

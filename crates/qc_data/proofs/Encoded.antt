@@ -11,9 +11,10 @@ use Rattle.qc_data.specs.declared.data.Json.{Json}
 use Rattle.qc_data.specs.declared.data.Json.TheViews.{out-Json, the_lemmas}
 use Rattle.qc_data.specs.declared.data.Json.TheVariants as json
 use Rattle.qc_data.specs.Outcome.{Mode, Outcome, Value, Halts, and_then, alone, each, bound}
-use Rattle.qc_data.specs.Kinds.{as_int, as_coll, json_int, json_array, int_at, coll_at, number_at, array_at, made, json_made}
+use Rattle.qc_data.specs.Kinds.{as_int, as_coll, json_int, json_array, int_at, coll_at, number_at, array_at, made}
+use Rattle.qc_data.specs.Kinds.{json_made}
 use Rattle.qc_data.specs.Encoding.{enc, enc_step, encoded}
-use Rattle.qc_data.specs.Rising.{on_value}
+use Rattle.qc_containers.specs.Rising.{on_value}
 
 pub enc-roll : (x : Datum-F Datum) → enc (roll-Datum x) ≡ enc_step (map-Datum Datum Json enc x)
 enc-roll x = fold-roll-Datum Json enc_step x
@@ -45,7 +46,8 @@ enc-Left d = ap enc (sym (datum.rolls-Left d)) ∙ enc-roll (Datum-F.Left d)
 pub enc-Right : (d : Datum) → enc (datum.Right d) ≡ json.Object ((codes "$right", enc d) ∷ [])
 enc-Right d = ap enc (sym (datum.rolls-Right d)) ∙ enc-roll (Datum-F.Right d)
 
-pub enc-Brand : (name : List ℕ) (d : Datum) → enc (datum.Brand name d) ≡ json.Object ((codes "$class", json.Text name) ∷ (codes "$data", enc d) ∷ [])
+pub enc-Brand : (name : List ℕ) (d : Datum)
+    → enc (datum.Brand name d) ≡ json.Object ((codes "$class", json.Text name) ∷ (codes "$data", enc d) ∷ [])
 enc-Brand name d = ap enc (sym (datum.rolls-Brand name d)) ∙ enc-roll (Datum-F.Brand name d)
 
 number_at-enc : (x : Datum-F Datum) → number_at (out-Json (enc_step (map-Datum Datum Json enc x))) ≡ int_at x
@@ -63,7 +65,8 @@ number_at-enc (Datum-F.Brand n d) = search (rules, the_lemmas)
 pub json_int-enc : (d : Datum) → json_int (enc d) ≡ as_int d
 json_int-enc d = rw (enc_layers d) (number_at-enc (out-Datum d))
 
-array_at-enc : (x : Datum-F Datum) → array_at (out-Json (enc_step (map-Datum Datum Json enc x))) ≡ and_then (coll_at x) (λ xs. Value (map enc xs))
+array_at-enc : (x : Datum-F Datum) → array_at (out-Json (enc_step (map-Datum Datum Json enc x)))
+    ≡ and_then (coll_at x) (λ xs. Value (map enc xs))
 array_at-enc Datum-F.Unit = search (rules, the_lemmas)
 array_at-enc (Datum-F.Bool b) = search (rules, the_lemmas)
 array_at-enc (Datum-F.Int n) = search (rules, the_lemmas)
@@ -88,12 +91,15 @@ json_made-enc m n = made_at (bound m n)
 
 -- ---- the outcomes of members, encoded
 
-first_then : (o : Outcome Datum) (rest : Outcome (List Json)) (later : Outcome (List Datum)) → rest ≡ and_then later (λ ds. Value (map enc ds))
-    → and_then (alone (encoded o)) (λ ys. and_then rest (λ zs. Value (ys ++ zs))) ≡ and_then (and_then (alone o) (λ ys. and_then later (λ zs. Value (ys ++ zs)))) (λ ds. Value (map enc ds))
+first_then : (o : Outcome Datum) (rest : Outcome (List Json)) (later : Outcome (List Datum))
+    → rest ≡ and_then later (λ ds. Value (map enc ds))
+    → and_then (alone (encoded o)) (λ ys. and_then rest (λ zs. Value (ys ++ zs)))
+    ≡ and_then (and_then (alone o) (λ ys. and_then later (λ zs. Value (ys ++ zs)))) (λ ds. Value (map enc ds))
 first_then (Value d) rest (Value ds) h = rw h refl
 first_then (Value d) rest (Halts why) h = rw h refl
 first_then (Halts why) rest later h = refl
 
-pub each-encoded : {A : Type 0} (f : A → Outcome Json) (g : A → Outcome Datum) (xs : List A) → AllByRecursion (λ x. f x ≡ encoded (g x)) xs → each f xs ≡ and_then (each g xs) (λ ds. Value (map enc ds))
+pub each-encoded : {A : Type 0} (f : A → Outcome Json) (g : A → Outcome Datum) (xs : List A)
+    → AllByRecursion (λ x. f x ≡ encoded (g x)) xs → each f xs ≡ and_then (each g xs) (λ ds. Value (map enc ds))
 each-encoded f g [] h = refl
 each-encoded f g (x ∷ xs) h = rw h.0 (first_then (g x) (each f xs) (each g xs) (each-encoded f g xs h.1))

@@ -1,9 +1,10 @@
 -- What `named`, `rising` and `within` are at each kind.
 use Rattle.std.proofs.Common.{◌≡◌, ℕ, ℤ, Bool, true, List, map, sym, ap, ◌∙◌}
 use Rattle.std.specs.Prelude.{◌&&◌, int_le}
-use Rattle.qc_data.specs.Facts.{named, named_step, rising, rising_step, within, within_step, all_true, all_named, all_values, rise}
-use Rattle.qc_data.specs.Name.{is_name}
-use Rattle.qc_data.specs.Rising.{on_value}
+use Rattle.qc_data.specs.Facts.{named, named_step, rising, rising_step, within, within_step, all_true, all_named}
+use Rattle.qc_data.specs.Facts.{all_values, rise}
+use Rattle.qc_containers.specs.Name.{is_name}
+use Rattle.qc_containers.specs.Rising.{on_value}
 use Rattle.qc_data.specs.declared.data.Datum.{Datum}
 use Rattle.qc_data.specs.declared.data.Datum.TheOpen.{Datum-F}
 use Rattle.qc_data.specs.declared.data.Datum.TheViews.{roll-Datum}
@@ -58,7 +59,8 @@ rising-Text text = ap rising (sym (D.rolls-Text text)) ∙ rising-roll (Datum-F.
 pub rising-Coll : (items : List Datum) → rising (D.Coll items) ≡ all_true (map rising items)
 rising-Coll items = ap rising (sym (D.rolls-Coll items)) ∙ rising-roll (Datum-F.Coll items)
 
-pub rising-Rec : (fields : List (List ℕ × Datum)) → rising (D.Rec fields) ≡ (rise (map (on_value rising) fields) && all_values (map (on_value rising) fields))
+pub rising-Rec : (fields : List (List ℕ × Datum))
+    → rising (D.Rec fields) ≡ (rise (map (on_value rising) fields) && all_values (map (on_value rising) fields))
 rising-Rec fields = ap rising (sym (D.rolls-Rec fields)) ∙ rising-roll (Datum-F.Rec fields)
 
 pub rising-Left : (d : Datum) → rising (D.Left d) ≡ rising d
@@ -70,7 +72,8 @@ rising-Right d = ap rising (sym (D.rolls-Right d)) ∙ rising-roll (Datum-F.Righ
 pub rising-Brand : (name : List ℕ) (d : Datum) → rising (D.Brand name d) ≡ rising d
 rising-Brand name d = ap rising (sym (D.rolls-Brand name d)) ∙ rising-roll (Datum-F.Brand name d)
 
-pub within-roll : (low high : ℤ) (x : Datum-F Datum) → within low high (roll-Datum x) ≡ within_step low high (map-Datum Datum Bool (within low high) x)
+pub within-roll : (low high : ℤ) (x : Datum-F Datum)
+    → within low high (roll-Datum x) ≡ within_step low high (map-Datum Datum Bool (within low high) x)
 within-roll low high x = fold-roll-Datum Bool (within_step low high) x
 
 pub within-Unit : (low high : ℤ) → within low high D.Unit ≡ true
@@ -85,10 +88,12 @@ within-Int low high n = ap (within low high) (sym (D.rolls-Int n)) ∙ within-ro
 pub within-Text : (low high : ℤ) (text : List ℕ) → within low high (D.Text text) ≡ true
 within-Text low high text = ap (within low high) (sym (D.rolls-Text text)) ∙ within-roll low high (Datum-F.Text text)
 
-pub within-Coll : (low high : ℤ) (items : List Datum) → within low high (D.Coll items) ≡ all_true (map (within low high) items)
+pub within-Coll : (low high : ℤ) (items : List Datum)
+    → within low high (D.Coll items) ≡ all_true (map (within low high) items)
 within-Coll low high items = ap (within low high) (sym (D.rolls-Coll items)) ∙ within-roll low high (Datum-F.Coll items)
 
-pub within-Rec : (low high : ℤ) (fields : List (List ℕ × Datum)) → within low high (D.Rec fields) ≡ all_values (map (on_value (within low high)) fields)
+pub within-Rec : (low high : ℤ) (fields : List (List ℕ × Datum))
+    → within low high (D.Rec fields) ≡ all_values (map (on_value (within low high)) fields)
 within-Rec low high fields = ap (within low high) (sym (D.rolls-Rec fields)) ∙ within-roll low high (Datum-F.Rec fields)
 
 pub within-Left : (low high : ℤ) (d : Datum) → within low high (D.Left d) ≡ within low high d
@@ -98,4 +103,5 @@ pub within-Right : (low high : ℤ) (d : Datum) → within low high (D.Right d) 
 within-Right low high d = ap (within low high) (sym (D.rolls-Right d)) ∙ within-roll low high (Datum-F.Right d)
 
 pub within-Brand : (low high : ℤ) (name : List ℕ) (d : Datum) → within low high (D.Brand name d) ≡ within low high d
-within-Brand low high name d = ap (within low high) (sym (D.rolls-Brand name d)) ∙ within-roll low high (Datum-F.Brand name d)
+within-Brand low high name d =
+    ap (within low high) (sym (D.rolls-Brand name d)) ∙ within-roll low high (Datum-F.Brand name d)

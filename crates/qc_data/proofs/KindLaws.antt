@@ -40,7 +40,11 @@ json_array-Array js = rw (out-Array js) refl
 -- ---- what operators make agrees between modes
 
 pub agrees_made : (low high n : ℤ) → Agrees (made any_size n) (made (within low high) n)
-agrees_made low high n = agrees_then (bound any_size n) (bound (within low high) n) (λ k. Value (datum.Int k)) (λ k. Value (datum.Int k)) (agrees_bound low high n) (λ k. refl)
+agrees_made low high n =
+    agrees_then (bound any_size n) (bound (within low high) n) (λ k. Value (datum.Int k)) (λ k. Value (datum.Int k))
+    (agrees_bound low high n) (λ k. refl)
 
 pub agrees_json_made : (low high n : ℤ) → Agrees (json_made any_size n) (json_made (within low high) n)
-agrees_json_made low high n = agrees_then (bound any_size n) (bound (within low high) n) (λ k. Value (json.Int k)) (λ k. Value (json.Int k)) (agrees_bound low high n) (λ k. refl)
+agrees_json_made low high n =
+    agrees_then (bound any_size n) (bound (within low high) n) (λ k. Value (json.Int k)) (λ k. Value (json.Int k))
+    (agrees_bound low high n) (λ k. refl)

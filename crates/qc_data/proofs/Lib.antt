@@ -1,4 +1,3 @@
-pub mod Appending
 pub mod CanonLaws
 mod Decoded
 pub mod DecodingLaws
@@ -11,7 +10,6 @@ pub mod KindLaws
 pub mod Layers
 pub mod OrderLaws
 pub mod Outcomes
-pub mod Putting
 pub mod Returning
 pub mod Risen
 pub mod SameLaws
@@ -20,4 +18,3 @@ pub mod SortLaws
 pub mod Sorting
 pub mod Ties
 pub mod Total
-pub mod Truth

@@ -3,7 +3,7 @@ use Rattle.std.proofs.Common.{◌≡◌, ℕ, ℤ, Bool, List, Ordering, Equal, 
 use Rattle.std.specs.Cmp.Lexicographic.{slice_cmp}
 use Rattle.std.specs.Ordering.{ordering_then, bool_cmp, int_cmp, nat_cmp}
 use Rattle.qc_data.specs.Order.{cmp, cmp_step, layer_cmp, pair_cmp, rank}
-use Rattle.qc_data.specs.Rising.{text_cmp}
+use Rattle.qc_containers.specs.Rising.{text_cmp}
 use Rattle.qc_data.specs.declared.data.Datum.{Datum}
 use Rattle.qc_data.specs.declared.data.Datum.TheOpen.{Datum-F}
 use Rattle.qc_data.specs.declared.data.Datum.TheViews.{out-Datum}
@@ -13,7 +13,8 @@ use Rattle.qc_data.proofs.KindLaws.{out-Coll, out-Rec}
 use Rattle.qc_data.proofs.Layers.{list_cmp-map, pairs_cmp-map}
 
 -- one layer against another
-pub cmp-layers : (a b : Datum) → cmp a b ≡ layer_cmp (map-Datum Datum (Datum → Ordering) cmp (out-Datum a)) (out-Datum b)
+pub cmp-layers : (a b : Datum) → cmp a b
+    ≡ layer_cmp (map-Datum Datum (Datum → Ordering) cmp (out-Datum a)) (out-Datum b)
 cmp-layers a b = ap (λ (f : Datum → Ordering). f b) (fold_out-Datum (Datum → Ordering) cmp_step a)
 
 pub cmp-Unit : cmp D.Unit D.Unit ≡ Equal
@@ -43,7 +44,8 @@ cmp-Right a b = cmp-layers (D.Right a) (D.Right b) ∙ rw (D.outs-Right a, D.out
 pub cmp-Brand : (m n : List ℕ) (a b : Datum) → cmp (D.Brand m a) (D.Brand n b) ≡ ordering_then (text_cmp m n) (cmp a b)
 cmp-Brand m n a b = cmp-layers (D.Brand m a) (D.Brand n b) ∙ rw (D.outs-Brand m a, D.outs-Brand n b) refl
 
-ranked : (x y : Datum-F Datum) → (rank x ≡ rank y → ⊥) → layer_cmp (map-Datum Datum (Datum → Ordering) cmp x) y ≡ nat_cmp (rank x) (rank y)
+ranked : (x y : Datum-F Datum) → (rank x ≡ rank y → ⊥)
+    → layer_cmp (map-Datum Datum (Datum → Ordering) cmp x) y ≡ nat_cmp (rank x) (rank y)
 ranked Datum-F.Unit Datum-F.Unit h = absurd (h refl)
 ranked (Datum-F.Bool a) (Datum-F.Bool b) h = absurd (h refl)
 ranked (Datum-F.Int m) (Datum-F.Int n) h = absurd (h refl)
@@ -56,5 +58,6 @@ ranked (Datum-F.Brand m a) (Datum-F.Brand n b) h = absurd (h refl)
 ranked x y h = refl
 
 -- data of two kinds are in the order of the kinds
-pub cmp-kinds : (a b : Datum) → (rank (out-Datum a) ≡ rank (out-Datum b) → ⊥) → cmp a b ≡ nat_cmp (rank (out-Datum a)) (rank (out-Datum b))
+pub cmp-kinds : (a b : Datum) → (rank (out-Datum a) ≡ rank (out-Datum b) → ⊥)
+    → cmp a b ≡ nat_cmp (rank (out-Datum a)) (rank (out-Datum b))
 cmp-kinds a b h = cmp-layers a b ∙ ranked (out-Datum a) (out-Datum b) h

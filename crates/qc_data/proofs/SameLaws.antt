@@ -2,14 +2,28 @@
 use Rattle.std.proofs.Common.{◌≡◌, ℕ, List, [], ◌∷◌, map, refl, sym, ap, ◌∙◌}
 use Rattle.std.specs.List.Sorted.{IsPermutation}
 use Rattle.std.proofs.lemmas.List.Sorted.{IsPermutation-map}
-use Rattle.qc_data.specs.Order.{cmp, canon, sort_by, Same, AllSame, FieldsSame}
-use Rattle.qc_data.specs.Rising.{on_value}
+use Rattle.qc_data.specs.Order.{cmp, canon, sort_by, Same}
+use Rattle.qc_containers.specs.Rising.{on_value}
 use Rattle.qc_data.specs.declared.data.Datum.{Datum}
 use Rattle.qc_data.specs.declared.data.Datum.TheVariants as D
 use Rattle.qc_data.proofs.CanonLaws.{canon-canon, canon-Coll, canon-Rec, canon-Left, canon-Right, canon-Brand}
 use Rattle.qc_data.proofs.SortLaws.{sort-permuted}
 use Rattle.qc_data.proofs.Ties.{cmp_only}
 use Rattle.qc_data.proofs.Total.{cmp_total}
+
+-- two lists of the same data, place by place
+abbrev pub AllSame : List Datum → List Datum → Type 0
+AllSame [] [] = Unit {0}
+AllSame [] (y ∷ ys) = ⊥
+AllSame (x ∷ xs) [] = ⊥
+AllSame (x ∷ xs) (y ∷ ys) = Same x y × AllSame xs ys
+
+-- two lists of the same names and the same data, place by place
+abbrev pub FieldsSame : List (List ℕ × Datum) → List (List ℕ × Datum) → Type 0
+FieldsSame [] [] = Unit {0}
+FieldsSame [] (q ∷ qs) = ⊥
+FieldsSame (p ∷ ps) [] = ⊥
+FieldsSame (p ∷ ps) (q ∷ qs) = (p.0 ≡ q.0) × Same p.1 q.1 × FieldsSame ps qs
 
 pub Same-refl : (a : Datum) → Same a a
 Same-refl a = refl
@@ -36,7 +50,9 @@ Same-Coll xs ys h = canon-Coll xs ∙ ap (λ l. D.Coll (sort_by cmp l)) (canons 
 
 -- collections of the same members in another order
 pub Same-permuted : (xs ys : List Datum) → IsPermutation xs ys → Same (D.Coll xs) (D.Coll ys)
-Same-permuted xs ys moved = canon-Coll xs ∙ ap D.Coll (sort-permuted cmp cmp_only cmp_total (map canon xs) (map canon ys) (IsPermutation-map canon xs ys moved)) ∙ sym (canon-Coll ys)
+Same-permuted xs ys moved =
+    canon-Coll xs ∙ ap D.Coll (sort-permuted cmp cmp_only cmp_total (map canon xs) (map canon ys)
+    (IsPermutation-map canon xs ys moved)) ∙ sym (canon-Coll ys)
 
 field_canons : (ps qs : List (List ℕ × Datum)) → FieldsSame ps qs → map (on_value canon) ps ≡ map (on_value canon) qs
 field_canons [] [] h = refl

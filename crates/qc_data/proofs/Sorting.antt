@@ -1,11 +1,12 @@
 -- A stable sort by a total order has one result, which insertion gives.
-use Rattle.std.proofs.Common.{◌≡◌, ℕ, ◌+◌, List, [], ◌∷◌, get_or, Bool, true, false, cond, not, ◌&&◌, Ordering, Less, Equal, Greater, refl, sym, ap, ◌∙◌, arith, add-one}
+use Rattle.std.proofs.Common.{◌≡◌, ℕ, ◌+◌, List, [], ◌∷◌, get_or, Bool, true, false, cond, not, ◌&&◌, Ordering, Less}
+use Rattle.std.proofs.Common.{Equal, Greater, refl, sym, ap, ◌∙◌, arith, add-one}
 use Rattle.std.specs.Cmp.{IsTotalOrder, upto, alike_right, tied_itself}
 use Rattle.std.specs.List.{filter}
 use Rattle.std.specs.List.Sorted.{IsSorted, IsStable, ties}
 use Rattle.std.specs.Ordering.{is_lt, is_gt, is_eq, ordering_reverse}
 use Rattle.qc_data.specs.Order.{insert_by, sort_by}
-use Rattle.qc_data.proofs.Truth.{is_Equal}
+use Rattle.qc_containers.proofs.Truth.{is_Equal}
 
 module _ {X : Type 0} (R : X → X → Ordering) (o : IsTotalOrder R) where
   abbrev UpTo : X → List X → Type 0
@@ -34,7 +35,8 @@ module _ {X : Type 0} (R : X → X → Ordering) (o : IsTotalOrder R) where
 
   IsSorted-tail : (x : X) (xs : List X) → IsSorted R (x ∷ xs) → IsSorted R xs
   IsSorted-tail x xs s k d low h =
-      let t : is_lt (R (get_or (x ∷ xs) (k + 1 + 1) d) (get_or (x ∷ xs) (k + 1) d)) ≡ false = s (k + 1) d (omega arith) (omega arith) in
+      let t : is_lt (R (get_or (x ∷ xs) (k + 1 + 1) d) (get_or (x ∷ xs) (k + 1) d))
+      ≡ false = s (k + 1) d (omega arith) (omega arith) in
       let a = one_on x xs (k + 1) d in let b = one_on x xs k d in sym (λ i. is_lt (R (a i) (b i))) ∙ t
 
   pub from_IsSorted : (xs : List X) → IsSorted R xs → Sorted xs
@@ -63,7 +65,9 @@ module _ {X : Type 0} (R : X → X → Ordering) (o : IsTotalOrder R) where
   -- ---- insertion
   UpTo-insert : (z x : X) (ys : List X) → is_gt (R z x) ≡ false → UpTo z ys → UpTo z (insert_by R x ys)
   UpTo-insert z x [] h u = (h, tt)
-  UpTo-insert z x (y ∷ ys) h u = elim (is_gt (R x y)) as (λ b. UpTo z (cond b (y ∷ insert_by R x ys) (x ∷ y ∷ ys))) [ true ↦ (u.0, UpTo-insert z x ys h u.1) | false ↦ (h, u) ]
+  UpTo-insert z x (y ∷ ys) h u =
+      elim (is_gt (R x y)) as (λ b. UpTo z (cond b (y ∷ insert_by R x ys) (x ∷ y ∷ ys)))
+      [ true ↦ (u.0, UpTo-insert z x ys h u.1) | false ↦ (h, u) ]
 
   gt_back : (x y : X) → is_gt (R x y) ≡ true → is_gt (R y x) ≡ false
   gt_back x y e = let t : R y x ≡ ordering_reverse (R x y) = o.antisymm y x in gt_turned (R x y) (R y x) t e
@@ -73,7 +77,8 @@ module _ {X : Type 0} (R : X → X → Ordering) (o : IsTotalOrder R) where
       gt_turned Equal s e h = absurd (cc)
       gt_turned Greater s e h = rw e refl
 
-  Sorted-insert-at : (b : Bool) (x y : X) (ys : List X) → is_gt (R x y) ≡ b → Sorted (y ∷ ys) → Sorted (insert_by R x ys) → Sorted (insert_by R x (y ∷ ys))
+  Sorted-insert-at : (b : Bool) (x y : X) (ys : List X) → is_gt (R x y) ≡ b → Sorted (y ∷ ys)
+      → Sorted (insert_by R x ys) → Sorted (insert_by R x (y ∷ ys))
   Sorted-insert-at true x y ys e s ih = rw e (UpTo-insert y x ys (gt_back x y e) s.0, ih)
   Sorted-insert-at false x y ys e s ih = rw e ((e, UpTo-more x y ys e s.0), s)
 
@@ -86,7 +91,8 @@ module _ {X : Type 0} (R : X → X → Ordering) (o : IsTotalOrder R) where
   Sorted-sort (x ∷ xs) = Sorted-insert x (sort_by R xs) (Sorted-sort xs)
 
   -- two that are apart do not both tie with z
-  swapped : (a b : Bool) (x y : X) (l : List X) → (a ≡ true → b ≡ true → ⊥) → cond b (y ∷ cond a (x ∷ l) l) (cond a (x ∷ l) l) ≡ cond a (x ∷ cond b (y ∷ l) l) (cond b (y ∷ l) l)
+  swapped : (a b : Bool) (x y : X) (l : List X) → (a ≡ true → b ≡ true → ⊥)
+      → cond b (y ∷ cond a (x ∷ l) l) (cond a (x ∷ l) l) ≡ cond a (x ∷ cond b (y ∷ l) l) (cond b (y ∷ l) l)
   swapped true true x y l h = absurd (h refl refl)
   swapped true false x y l h = refl
   swapped false b x y l h = refl
@@ -100,7 +106,9 @@ module _ {X : Type 0} (R : X → X → Ordering) (o : IsTotalOrder R) where
       let e : is_gt (R x y) ≡ false = ap is_gt c in
       cc
 
-  kept-at : (b : Bool) (z x y : X) (ys : List X) → is_gt (R x y) ≡ b → filter (tied z) (insert_by R x ys) ≡ filter (tied z) (x ∷ ys) → filter (tied z) (insert_by R x (y ∷ ys)) ≡ filter (tied z) (x ∷ y ∷ ys)
+  kept-at : (b : Bool) (z x y : X) (ys : List X) → is_gt (R x y) ≡ b
+      → filter (tied z) (insert_by R x ys) ≡ filter (tied z) (x ∷ ys)
+      → filter (tied z) (insert_by R x (y ∷ ys)) ≡ filter (tied z) (x ∷ y ∷ ys)
   kept-at true z x y ys e ih = rw (e, ih) (swapped (tied z x) (tied z y) x y (filter (tied z) ys) (apart z x y e))
   kept-at false z x y ys e ih = rw e refl
 
@@ -125,7 +133,8 @@ module _ {X : Type 0} (R : X → X → Ordering) (o : IsTotalOrder R) where
   ties_self : (x : X) (xs : List X) → filter (tied x) (x ∷ xs) ≡ x ∷ filter (tied x) xs
   ties_self x xs = rw (tied_itself o x) refl
 
-  no_less : (x y : X) (xs ys : List X) → R x y ≡ Less → UpTo y ys → filter (tied x) (x ∷ xs) ≡ filter (tied x) (y ∷ ys) → ⊥
+  no_less : (x y : X) (xs ys : List X) → R x y ≡ Less → UpTo y ys → filter (tied x) (x ∷ xs) ≡ filter (tied x) (y ∷ ys)
+      → ⊥
   no_less x y xs ys e u k =
       let a : x ∷ filter (tied x) xs ≡ filter (tied x) (x ∷ xs) = sym (ties_self x xs) in
       let b : filter (tied x) (y ∷ ys) ≡ [] = rw e (none_tie x y ys e u) in
@@ -135,23 +144,32 @@ module _ {X : Type 0} (R : X → X → Ordering) (o : IsTotalOrder R) where
   tail_same true x l m e = cc
   tail_same false x l m e = e
 
-  one-at : (r : Ordering) (x y : X) (xs ys : List X) → R x y ≡ r → UpTo x xs → UpTo y ys → Kin (x ∷ xs) (y ∷ ys) → (Kin xs ys → xs ≡ ys) → x ∷ xs ≡ y ∷ ys
+  one-at : (r : Ordering) (x y : X) (xs ys : List X) → R x y ≡ r → UpTo x xs → UpTo y ys → Kin (x ∷ xs) (y ∷ ys)
+      → (Kin xs ys → xs ≡ ys) → x ∷ xs ≡ y ∷ ys
   one-at Less x y xs ys e u v k ih = absurd (no_less x y xs ys e v (k x))
   one-at Equal x y xs ys e u v k ih =
       let a : x ∷ filter (tied x) xs ≡ filter (tied x) (x ∷ xs) = sym (ties_self x xs) in
       let b : filter (tied x) (y ∷ ys) ≡ y ∷ filter (tied x) ys = rw e refl in
       let c : filter (tied x) (x ∷ xs) ≡ filter (tied x) (y ∷ ys) = k x in
       let same : x ≡ y = cc in
-      let rest : xs ≡ ys = ih (λ z. tail_same (tied z x) x (filter (tied z) xs) (filter (tied z) ys) (k z ∙ rw same refl)) in
+      let rest : xs ≡ ys = ih (λ z. tail_same (tied z x) x (filter (tied z) xs) (filter (tied z) ys)
+      (k z ∙ rw same refl)) in
       cc
-  one-at Greater x y xs ys e u v k ih = absurd (no_less y x ys xs (o.antisymm y x ∙ ap ordering_reverse e) u (sym (k y)))
+  one-at Greater x y xs ys e u v k ih =
+      absurd (no_less y x ys xs (o.antisymm y x ∙ ap ordering_reverse e) u (sym (k y)))
 
   pub one_result : (xs ys : List X) → Sorted xs → Sorted ys → Kin xs ys → xs ≡ ys
   one_result [] [] s t k = refl
-  one_result [] (y ∷ ys) s t k = absurd (let a : filter (tied y) [] ≡ filter (tied y) (y ∷ ys) = k y in let b : filter (tied y) (y ∷ ys) ≡ y ∷ filter (tied y) ys = ties_self y ys in cc)
-  one_result (x ∷ xs) [] s t k = absurd (let a : filter (tied x) (x ∷ xs) ≡ filter (tied x) [] = k x in let b : filter (tied x) (x ∷ xs) ≡ x ∷ filter (tied x) xs = ties_self x xs in cc)
+  one_result [] (y ∷ ys) s t k =
+      absurd (let a : filter (tied y) [] ≡ filter (tied y) (y ∷ ys) = k y in
+      let b : filter (tied y) (y ∷ ys) ≡ y ∷ filter (tied y) ys = ties_self y ys in cc)
+  one_result (x ∷ xs) [] s t k =
+      absurd (let a : filter (tied x) (x ∷ xs) ≡ filter (tied x) [] = k x in
+      let b : filter (tied x) (x ∷ xs) ≡ x ∷ filter (tied x) xs = ties_self x xs in cc)
   one_result (x ∷ xs) (y ∷ ys) s t k = one-at (R x y) x y xs ys refl s.0 t.0 k (one_result xs ys s.1 t.1)
 
   -- what a stable sort of xs gives
   pub sorted_is : (xs ys : List X) → IsSorted R ys → IsStable R xs ys → ys ≡ sort_by R xs
-  sorted_is xs ys s t = one_result ys (sort_by R xs) (from_IsSorted ys s) (Sorted-sort xs) (λ z. from_IsStable xs ys t z ∙ sym (kept-sort z xs))
+  sorted_is xs ys s t =
+      one_result ys (sort_by R xs) (from_IsSorted ys s) (Sorted-sort xs)
+      (λ z. from_IsStable xs ys t z ∙ sym (kept-sort z xs))

@@ -18,10 +18,12 @@ use Rattle.qc_data.proofs.Sorting.{sorted_is}
 abbrev own : Datum → Datum → Ordering
 own = I.ghosts.cmp
 
-one_step : (x y : Datum) → own x y ≡ I.the_step (compared B.the_members B.the_family B.the_depth Ordering Equal I.the_step) B.member-Datum x y
+one_step : (x y : Datum) → own x y ≡ I.the_step
+    (compared B.the_members B.the_family B.the_depth Ordering Equal I.the_step) B.member-Datum x y
 one_step x y = compared_is B.the_members B.the_family B.the_depth Ordering Equal I.the_step L.local B.member-Datum x y
 
-by_layers : (x y : Datum) (a b : Datum-F Datum) → out-Datum x ≡ a → out-Datum y ≡ b → own x y ≡ layer_cmp (map-Datum Datum (Datum → Ordering) own a) b
+by_layers : (x y : Datum) (a b : Datum-F Datum) → out-Datum x ≡ a → out-Datum y ≡ b
+    → own x y ≡ layer_cmp (map-Datum Datum (Datum → Ordering) own a) b
 by_layers x y Datum-F.Unit Datum-F.Unit p q = one_step x y ∙ rw (p, q) refl
 by_layers x y (Datum-F.Bool b) (Datum-F.Bool c) p q = one_step x y ∙ rw (p, q) refl
 by_layers x y (Datum-F.Int n) (Datum-F.Int m) p q = one_step x y ∙ rw (p, q) refl
@@ -36,11 +38,16 @@ by_layers x y a b p q = one_step x y ∙ rw (p, q) refl
 abbrev Alike : Datum → Type 0
 Alike x = own x ≡ cmp x
 
-same-step : (x : Datum-F Datum) (w : Datum-F ((d : Datum) × Alike d)) → map-Datum ((d : Datum) × Alike d) Datum (λ e. e.0) w ≡ x → (y : Datum) → own (roll-Datum x) y ≡ cmp (roll-Datum x) y
+same-step : (x : Datum-F Datum) (w : Datum-F ((d : Datum) × Alike d))
+    → map-Datum ((d : Datum) × Alike d) Datum (λ e. e.0) w ≡ x → (y : Datum)
+    → own (roll-Datum x) y ≡ cmp (roll-Datum x) y
 same-step x w is y =
-    let ours : cmp (roll-Datum x) y ≡ layer_cmp (map-Datum Datum (Datum → Ordering) cmp x) (out-Datum y) = cmp-layers (roll-Datum x) y ∙ ap (λ (l : Datum-F Datum). layer_cmp (map-Datum Datum (Datum → Ordering) cmp l) (out-Datum y)) (out-roll x) in
+    let ours : cmp (roll-Datum x) y ≡ layer_cmp (map-Datum Datum (Datum → Ordering) cmp x) (out-Datum y) = cmp-layers
+    (roll-Datum x) y ∙ ap (λ (l : Datum-F Datum). layer_cmp (map-Datum Datum (Datum → Ordering) cmp l) (out-Datum y))
+    (out-roll x) in
     by_layers (roll-Datum x) y x (out-Datum y) (out-roll x) refl
-    ∙ ap (λ (l : Datum-F (Datum → Ordering)). layer_cmp l (out-Datum y)) (map-same Alike (Datum → Ordering) own cmp (λ d h. h) w x is)
+    ∙ ap (λ (l : Datum-F (Datum → Ordering)). layer_cmp l (out-Datum y))
+    (map-same Alike (Datum → Ordering) own cmp (λ d h. h) w x is)
     ∙ sym ours
 
 same : (x : Datum) → Alike x

@@ -1,13 +1,15 @@
 -- The datum that a JSON tree encodes.
-use Rattle.std.specs.Prelude.{ℕ, List, [], ◌∷◌, ◌&&◌, cond, Option, Some, None, option_map, option_and_then, codes, ◌≡◌, ◌↔◌, IsTrue}
+use Rattle.std.specs.Prelude.{ℕ, List, [], ◌∷◌, ◌&&◌, cond, Option, Some, None, option_map, option_and_then, codes, ◌≡◌}
+use Rattle.std.specs.Prelude.{◌↔◌, IsTrue}
 use Rattle.std.specs.Str.{bytes_eq}
 use Rattle.qc_data.specs.Encoding.{enc}
 use Rattle.qc_data.specs.Facts.{named}
-use Rattle.qc_data.specs.Name.{is_name}
+use Rattle.qc_containers.specs.Name.{is_name}
 use Rattle.qc_data.specs.declared.data.Datum.{Datum}
 use Rattle.qc_data.specs.declared.data.Datum.TheOpen.{Datum-F}
 use Rattle.qc_data.specs.declared.data.Datum.TheViews.{out-Datum}
-use Rattle.qc_data.specs.declared.data.Datum.TheVariants.{Unit as Nothing, Bool as DBool, Int, Text, Coll, Rec, Left, Right, Brand}
+use Rattle.qc_data.specs.declared.data.Datum.TheVariants.{Unit as Nothing, Bool as DBool, Int, Text, Coll, Rec, Left}
+use Rattle.qc_data.specs.declared.data.Datum.TheVariants.{Right, Brand}
 use Rattle.qc_data.specs.declared.data.Json.{Json}
 use Rattle.qc_data.specs.declared.data.Json.TheOpen.{Json-F}
 use Rattle.qc_data.specs.declared.data.Json.TheFolds.{fold-Json}
@@ -37,7 +39,8 @@ items_of (o ∷ os) = option_and_then (λ d. option_map (λ ds. d ∷ ds) (items
 -- all pairs, where each has a name and a datum
 abbrev pub fields_of : List (List ℕ × Option Datum) → Option (List (List ℕ × Datum))
 fields_of [] = Some []
-fields_of (p ∷ ps) = cond (is_name p.0) (option_and_then (λ d. option_map (λ fs. (p.0, d) ∷ fs) (fields_of ps)) p.1) None
+fields_of (p ∷ ps) =
+    cond (is_name p.0) (option_and_then (λ d. option_map (λ fs. (p.0, d) ∷ fs) (fields_of ps)) p.1) None
 
 -- a record of the pairs, where each has a name and a datum
 abbrev pub plain : List (List ℕ × Option Datum) → Option Datum
@@ -46,8 +49,11 @@ plain ps = option_map Rec (fields_of ps)
 -- an object whose members are already decoded
 abbrev pub object_of : List (List ℕ × Option Datum) → Option Datum
 object_of [] = plain []
-object_of (p ∷ []) = cond (bytes_eq p.0 (codes "$left")) (option_map Left p.1) (cond (bytes_eq p.0 (codes "$right")) (option_map Right p.1) (plain (p ∷ [])))
-object_of (p ∷ q ∷ []) = cond (bytes_eq p.0 (codes "$class") && bytes_eq q.0 (codes "$data")) (branded p.1 q.1) (plain (p ∷ q ∷ []))
+object_of (p ∷ []) =
+    cond (bytes_eq p.0 (codes "$left")) (option_map Left p.1)
+    (cond (bytes_eq p.0 (codes "$right")) (option_map Right p.1) (plain (p ∷ [])))
+object_of (p ∷ q ∷ []) =
+    cond (bytes_eq p.0 (codes "$class") && bytes_eq q.0 (codes "$data")) (branded p.1 q.1) (plain (p ∷ q ∷ []))
 object_of (p ∷ q ∷ r ∷ ps) = plain (p ∷ q ∷ r ∷ ps)
 
 -- one layer, whose parts are decoded

@@ -1,8 +1,8 @@
 -- What holds of every datum that code holds, though not of every datum that clauses can speak of.
 use Rattle.std.specs.Prelude.{ℕ, ℤ, pos, negsuc, ◌^◌, ◌-◌, Bool, true, ◌&&◌, List, [], ◌∷◌, IsTrue, int_le}
 use Rattle.std.specs.Ordering.{is_lt}
-use Rattle.qc_data.specs.Name.{is_name}
-use Rattle.qc_data.specs.Rising.{text_cmp}
+use Rattle.qc_containers.specs.Name.{is_name}
+use Rattle.qc_containers.specs.Rising.{text_cmp}
 use Rattle.qc_data.specs.declared.data.Datum.{Datum}
 use Rattle.qc_data.specs.declared.data.Datum.TheOpen.{Datum-F}
 use Rattle.qc_data.specs.declared.data.Datum.TheFolds.{fold-Datum}

@@ -1,10 +1,6 @@
-pub mod formers
 pub mod Decoding
 pub mod Encoding
 pub mod Facts
 pub mod Kinds
-pub mod Name
 pub mod Order
 pub mod Outcome
-pub mod Pairs
-pub mod Rising

@@ -3,7 +3,7 @@ use Rattle.std.specs.Prelude.{ℕ, List, [], ◌∷◌, ◌≡◌, cond}
 use Rattle.std.specs.Ordering.{nat_cmp, int_cmp, bool_cmp, ordering_then, is_gt}
 use Rattle.std.specs.declared.cmp.Ordering.{Ordering}
 use Rattle.std.specs.declared.cmp.Ordering.TheVariants.{Less, Equal, Greater}
-use Rattle.qc_data.specs.Rising.{text_cmp}
+use Rattle.qc_containers.specs.Rising.{text_cmp}
 use Rattle.qc_data.specs.declared.data.Datum.{Datum}
 use Rattle.qc_data.specs.declared.data.Datum.TheOpen.{Datum-F}
 use Rattle.qc_data.specs.declared.data.Datum.TheViews.{out-Datum, roll-Datum}
@@ -78,20 +78,6 @@ canon = fold-Datum Datum canon_step
 -- equal, where the order of a collection's members does not matter
 abbrev pub Same : Datum → Datum → Type 0
 Same a b = canon a ≡ canon b
-
--- two lists of the same data, place by place
-abbrev pub AllSame : List Datum → List Datum → Type 0
-AllSame [] [] = Unit {0}
-AllSame [] (y ∷ ys) = ⊥
-AllSame (x ∷ xs) [] = ⊥
-AllSame (x ∷ xs) (y ∷ ys) = Same x y × AllSame xs ys
-
--- two lists of the same names and the same data, place by place
-abbrev pub FieldsSame : List (List ℕ × Datum) → List (List ℕ × Datum) → Type 0
-FieldsSame [] [] = Unit {0}
-FieldsSame [] (q ∷ qs) = ⊥
-FieldsSame (p ∷ ps) [] = ⊥
-FieldsSame (p ∷ ps) (q ∷ qs) = (p.0 ≡ q.0) × Same p.1 q.1 × FieldsSame ps qs
 
 -- a field against another: by name and then by value
 abbrev pub pair_cmp : List ℕ × Datum → List ℕ × Datum → Ordering

@@ -1,5 +1,6 @@
 -- Modes and outcomes of a computation.
-use Rattle.std.specs.Prelude.{◌≡◌, ◌≢◌, ℤ, pos, negsuc, ◌^◌, ◌-◌, int_le, ◌&&◌, if◌then◌else◌, List, [], ◌∷◌, ◌++◌, Result, Ok, Err}
+use Rattle.std.specs.Prelude.{◌≡◌, ◌≢◌, ℤ, pos, negsuc, ◌^◌, ◌-◌, int_le, ◌&&◌, if◌then◌else◌, List, [], ◌∷◌, ◌++◌}
+use Rattle.std.specs.Prelude.{Result, Ok, Err}
 use Rattle.std.specs.Borrow.{Bor}
 use Rattle.qc_data.specs.declared.halt.Halt.{Halt}
 use Rattle.qc_data.specs.declared.halt.Halt.TheVariants as halt
@@ -70,7 +71,8 @@ abbrev pub IsKept : {A : Type 0} → Outcome A → Outcome A → Type 0
 IsKept (Value v) o = o ≡ Value v
 IsKept (Halts why) o = Unit {0}
 
--- the two laws between modes: a value in bounds is the value at any size, and a value at any size is in bounds the same or Range
+-- the two laws between modes: a value in bounds is the value at any size, and a value at any size is in bounds the same
+-- or Range
 abbrev pub Agrees : {A : Type 0} → Outcome A → Outcome A → Type 0
 Agrees any (Value v) = any ≡ Value v
 Agrees any (Halts Range) = Unit {0}

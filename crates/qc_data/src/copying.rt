@@ -1,13 +1,11 @@
 // Copies of data and of JSON trees.
 ghost use Rattle.std.specs.Prelude.{◌≡◌, IfOk};
 
-use crate::boxed::Boxed;
-use crate::data::{Datum, Fields, Items, Json, Jsons, Members};
-use crate::halt::Memory;
+use crate::data::{Datum, Json};
+use qc_containers::{Memory, Share};
 use std::alloc::Global;
 
-/// A copy: the same datum.
-#[cycle(copy)]
+/// A copy: the same datum, whose parts the two share. It takes the same time and memory, however large the datum is.
 pub fn copy(alloc: Global, d: &Datum) -> Result<Datum, Memory>
     ensures { IfOk result (λ made. made ≡ d.now) }
 {
@@ -15,51 +13,25 @@ pub fn copy(alloc: Global, d: &Datum) -> Result<Datum, Memory>
         Datum::Unit => Ok(Datum::Unit),
         Datum::Bool(b) => Ok(Datum::Bool(*b)),
         Datum::Int(n) => Ok(Datum::Int(*n)),
-        Datum::Text(text) => Ok(Datum::Text(text.copy(alloc)?)),
-        Datum::Coll(items) => Ok(Datum::Coll(copy_items(alloc, items)?)),
-        Datum::Rec(fields) => Ok(Datum::Rec(copy_fields(alloc, fields)?)),
-        Datum::Left(inner) => Ok(Datum::Left(copy_boxed(alloc, inner)?)),
-        Datum::Right(inner) => Ok(Datum::Right(copy_boxed(alloc, inner)?)),
+        Datum::Text(text) => Ok(Datum::Text(text.share(alloc)?)),
+        Datum::Coll(items) => Ok(Datum::Coll(items.share(alloc)?)),
+        Datum::Rec(fields) => Ok(Datum::Rec(fields.share(alloc)?)),
+        Datum::Left(inner) => Ok(Datum::Left(inner.share(alloc)?)),
+        Datum::Right(inner) => Ok(Datum::Right(inner.share(alloc)?)),
         Datum::Brand(name, inner) => {
-            let name = name.copy(alloc)?;
-            Ok(Datum::Brand(name, copy_boxed(alloc, inner)?))
+            let name = name.share(alloc)?;
+            Ok(Datum::Brand(name, inner.share(alloc)?))
         }
     }
 }
 
-#[cycle(copy)]
-fn copy_boxed(alloc: Global, inner: &Boxed<Datum>) -> Result<Boxed<Datum>, Memory>
-    ensures { IfOk result (λ made. made ≡ inner.now) }
-{
-    let inner = copy(alloc, inner.get())?;
-    Boxed::of(alloc, inner)
-}
-
-#[cycle(copy)]
-fn copy_items(alloc: Global, items: &Items) -> Result<Items, Memory>
-    ensures { IfOk result (λ made. made ≡ items.now) }
-{
-    let mut copies = Items::new(alloc);
-    for item in items.as_slice() {
-        copies.add(copy(alloc, item)?)?;
+impl Share for Datum {
+    fn share(&self, alloc: Global) -> Result<Datum, Memory> {
+        copy(alloc, self)
     }
-    Ok(copies)
 }
 
-#[cycle(copy)]
-fn copy_fields(alloc: Global, fields: &Fields) -> Result<Fields, Memory>
-    ensures { IfOk result (λ made. made ≡ fields.now) }
-{
-    let mut copies = Fields::new(alloc);
-    for pair in fields.as_slice() {
-        let name = pair.0.copy(alloc)?;
-        copies.add(name, copy(alloc, &pair.1)?)?;
-    }
-    Ok(copies)
-}
-
-/// A copy: the same tree.
-#[cycle(copy_json)]
+/// A copy: the same tree, whose parts the two share. It takes the same time and memory, however large the tree is.
 pub fn copy_json(alloc: Global, j: &Json) -> Result<Json, Memory>
     ensures { IfOk result (λ made. made ≡ j.now) }
 {
@@ -67,31 +39,14 @@ pub fn copy_json(alloc: Global, j: &Json) -> Result<Json, Memory>
         Json::Null => Ok(Json::Null),
         Json::Bool(b) => Ok(Json::Bool(*b)),
         Json::Int(n) => Ok(Json::Int(*n)),
-        Json::Text(text) => Ok(Json::Text(text.copy(alloc)?)),
-        Json::Array(items) => Ok(Json::Array(copy_jsons(alloc, items)?)),
-        Json::Object(members) => Ok(Json::Object(copy_members(alloc, members)?)),
+        Json::Text(text) => Ok(Json::Text(text.share(alloc)?)),
+        Json::Array(items) => Ok(Json::Array(items.share(alloc)?)),
+        Json::Object(members) => Ok(Json::Object(members.share(alloc)?)),
     }
 }
 
-#[cycle(copy_json)]
-fn copy_jsons(alloc: Global, items: &Jsons) -> Result<Jsons, Memory>
-    ensures { IfOk result (λ made. made ≡ items.now) }
-{
-    let mut copies = Jsons::new(alloc);
-    for item in items.as_slice() {
-        copies.add(copy_json(alloc, item)?)?;
+impl Share for Json {
+    fn share(&self, alloc: Global) -> Result<Json, Memory> {
+        copy_json(alloc, self)
     }
-    Ok(copies)
-}
-
-#[cycle(copy_json)]
-fn copy_members(alloc: Global, members: &Members) -> Result<Members, Memory>
-    ensures { IfOk result (λ made. made ≡ members.now) }
-{
-    let mut copies = Members::new(alloc);
-    for pair in members.as_slice() {
-        let name = pair.0.copy(alloc)?;
-        copies.add(name, copy_json(alloc, &pair.1)?)?;
-    }
-    Ok(copies)
 }

@@ -1,19 +1,14 @@
 // Data, and the JSON trees that encode them.
-use crate::boxed::Boxed;
-use crate::list::List;
-use crate::name::Name;
-use crate::name_map::NameMap;
-use crate::text::Chars;
-use crate::text_map::TextMap;
 
+use qc_containers::{Boxed, Chars, Name, NameMap, SharedList, TextMap};
 /// The members of a collection.
-pub type Items = List<Datum>;
+pub type Items = SharedList<Datum>;
 
 /// The fields of a record.
 pub type Fields = NameMap<Datum>;
 
 /// The members of a JSON array.
-pub type Jsons = List<Json>;
+pub type Jsons = SharedList<Json>;
 
 /// The members of a JSON object.
 pub type Members = TextMap<Json>;

@@ -2,12 +2,10 @@
 ghost use Rattle.std.specs.Prelude.{◌≡◌, ◌&&◌, IfOk, map, length, codes, option_and_then};
 ghost use Rattle.std.specs.Str.{bytes_eq};
 ghost use Rattle.qc_data.specs.Decoding.{dec, Decodes, items_of, fields_of, object_of, plain, name_of};
-ghost use Rattle.qc_data.specs.Rising.{on_value};
+ghost use Rattle.qc_containers.specs.Rising.{on_value};
 
-use crate::boxed::Boxed;
 use crate::data::{Datum, Fields, Items, Json, Jsons, Members};
-use crate::halt::Memory;
-use crate::name::{Name, NameFault};
+use qc_containers::{Boxed, Memory, Name, NameFault};
 use std::alloc::Global;
 
 /// The datum whose encoding is the tree: `None` exactly where there is none.

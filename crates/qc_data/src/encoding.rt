@@ -1,13 +1,11 @@
 // JSON trees from data.
 ghost use Rattle.std.specs.Prelude.{◌≡◌, [], ◌∷◌, IfOk, map, codes};
 ghost use Rattle.qc_data.specs.Encoding.{enc};
-ghost use Rattle.qc_data.specs.Rising.{on_value};
+ghost use Rattle.qc_containers.specs.Rising.{on_value};
 ghost use Rattle.qc_data.specs.declared.data.Json.TheVariants.{Object, Text};
 
-use crate::boxed::Boxed;
 use crate::data::{Datum, Fields, Items, Json, Jsons, Members};
-use crate::halt::Memory;
-use crate::text::Chars;
+use qc_containers::{Boxed, Chars, Memory};
 use std::alloc::Global;
 
 /// The encoding of the datum: null, a boolean, an integer, a text, an array, an object, and for sides and class values

@@ -2,7 +2,7 @@
 ghost use Rattle.std.specs.Prelude.{◌≡◌, IsTrue, map};
 ghost use Rattle.qc_data.specs.Encoding.{enc};
 ghost use Rattle.qc_data.specs.Facts.{Held, named, rising, within64, all_true, all_named, all_values, rise};
-ghost use Rattle.qc_data.specs.Rising.{on_value};
+ghost use Rattle.qc_containers.specs.Rising.{on_value};
 
 use crate::data::{Datum, Fields, Items};
 

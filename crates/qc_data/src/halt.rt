@@ -1,9 +1,5 @@
 // Why a computation has no value.
-use std::alloc::{AllocError, AllocFailed};
-
-/// Memory was wanting.
-#[derive(Clone, Copy, Debug, PartialEq, Eq)]
-pub struct Memory;
+use qc_containers::Memory;
 
 /// Why a computation has no value.
 #[derive(Clone, Copy, Debug, PartialEq, Eq)]
@@ -14,18 +10,6 @@ pub enum Halt {
     Stuck,
     /// Memory was wanting.
     Memory,
-}
-
-impl From<AllocError> for Memory {
-    fn from(_: AllocError) -> Memory {
-        Memory
-    }
-}
-
-impl<T: Drop> From<AllocFailed<T>> for Memory {
-    fn from(_: AllocFailed<T>) -> Memory {
-        Memory
-    }
 }
 
 impl From<Memory> for Halt {

@@ -1,11 +1,10 @@
 // Canons of data, and sameness.
 ghost use Rattle.std.specs.Prelude.{◌≡◌, IfOk, IsTrue, ◌↔◌, map};
 ghost use Rattle.qc_data.specs.Order.{cmp, canon, sort_by, Same};
-ghost use Rattle.qc_data.specs.Rising.{on_value};
+ghost use Rattle.qc_containers.specs.Rising.{on_value};
 
-use crate::boxed::Boxed;
 use crate::data::{Datum, Fields, Items};
-use crate::halt::Memory;
+use qc_containers::{Boxed, Memory};
 use std::alloc::Global;
 
 /// The canon of the datum: each collection in it is sorted by `cmp`, inner ones first. Each list takes O(n log n)

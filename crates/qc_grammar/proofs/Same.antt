@@ -1,11 +1,12 @@
 -- Two languages with the same words have the same parses.
-use Rattle.std.proofs.Common.{◌≡◌, ◌<◌, ◌+◌, ℕ, List, ◌++◌, length, take, Ok, Err}
+use Rattle.std.proofs.Common.{◌+◌, List, ◌++◌, take, Ok, Err}
 use Rattle.std.specs.Prelude.{Result}
 use Rattle.qc_grammar.specs.declared.fault.SyntaxFault.{SyntaxFault}
 use Rattle.qc_grammar.specs.declared.fault.SyntaxFault.TheVariants.{BadSyntax, Memory}
 use Rattle.qc_grammar.specs.Parsing.{Begins, Parses}
 
-module _ {T A : Type 0} (L M : List T → A → Type 0) (to : (ts : List T) (x : A) → L ts x → M ts x) (from : (ts : List T) (x : A) → M ts x → L ts x) where
+module _ {T A : Type 0} (L M : List T → A → Type 0) (to : (ts : List T) (x : A) → L ts x → M ts x)
+    (from : (ts : List T) (x : A) → M ts x → L ts x) where
   begins : (ts : List T) → Begins M ts → Begins L ts
   begins ts b = (b.0, b.1, from (ts ++ b.0) b.1 b.2)
 

@@ -43,7 +43,8 @@ module _ {T : Type 0} (class : T → ℕ) (sample : ℕ → T) where
   append_sampled (Rule n ∷ β) σ h f = append_sampled β σ h f
   append_sampled (Action a ∷ β) σ h f = append_sampled β σ h f
 
-  in_rule : (bs : List (List Symbol)) (p : ℕ) (b : List Symbol) → rule_sampled bs ≡ true → slice_get bs p ≡ Some b → body_sampled b ≡ true
+  in_rule : (bs : List (List Symbol)) (p : ℕ) (b : List Symbol) → rule_sampled bs ≡ true → slice_get bs p ≡ Some b
+      → body_sampled b ≡ true
   in_rule [] p b h e = cc
   in_rule (d ∷ bs) zero b h e = let same : d ≡ b = cc in rw (← same) (both (body_sampled d) (rule_sampled bs) h).0
   in_rule (d ∷ bs) (suc p) b h e = in_rule bs p b (both (body_sampled d) (rule_sampled bs) h).1 e
@@ -54,14 +55,16 @@ module _ {T : Type 0} (class : T → ℕ) (sample : ℕ → T) where
   in_grammar (r ∷ g) (suc n) h = in_grammar g n (both (rule_sampled r) (grammar_sampled g) h).1
 
   -- so each kind of a word of the grammar has its sample
-  pub word_sampled : (g : Rules) → grammar_sampled g ≡ true → (i : ℕ) (σ : List Symbol) (ks : List ℕ) (es : List Event) → Derives g i σ ks es → body_sampled σ ≡ true → kinds_sampled ks ≡ true
+  pub word_sampled : (g : Rules) → grammar_sampled g ≡ true → (i : ℕ) (σ : List Symbol) (ks : List ℕ) (es : List Event)
+      → Derives g i σ ks es → body_sampled σ ≡ true → kinds_sampled ks ≡ true
   word_sampled g h i σ ks es nothing f = refl
   word_sampled g h i σ ks es (token {k = k} {σ = τ} {ks = js} {es = fs} d) f =
       let b = both (eqb (class (sample k)) k) (body_sampled τ) f in
       joined (eqb (class (sample k)) k) (kinds_sampled js) b.0 (word_sampled g h (suc i) τ js fs d b.1)
   word_sampled g h i σ ks es (action {σ = τ} {es = fs} d) f = word_sampled g h i τ ks fs d f
   word_sampled g h i σ ks es (rule {n = n} {σ = τ} {body = body} P d) f =
-      word_sampled g h i (body ++ τ) ks es d (append_sampled body τ (in_rule (alternatives g n) P.number body (in_grammar g n h) P.found) f)
+      word_sampled g h i (body ++ τ) ks es d
+      (append_sampled body τ (in_rule (alternatives g n) P.number body (in_grammar g n h) P.found) f)
 
   pub behind : (js ks : List ℕ) → kinds_sampled (js ++ ks) ≡ true → kinds_sampled ks ≡ true
   behind [] ks h = h

@@ -1,5 +1,6 @@
 -- A derivation in spans: from which token and stack of values to which ones.
-use Rattle.std.proofs.Common.{◌≡◌, ◌≤◌, ℕ, zero, suc, List, [], ◌∷◌, ◌++◌, ◌+◌, length, drop, slice_get, refl, sym, ap, ◌∙◌, subst, arith, Some}
+use Rattle.std.proofs.Common.{◌≡◌, ◌≤◌, ℕ, zero, suc, List, [], ◌∷◌, ◌++◌, ◌+◌, length, drop, slice_get, refl, sym, ap}
+use Rattle.std.proofs.Common.{◌∙◌, subst, arith, Some}
 use Rattle.std.proofs.lemmas.Option.{slice_get_within}
 use Rattle.qc_grammar.specs.declared.symbol.Symbol.{Symbol}
 use Rattle.qc_grammar.specs.declared.symbol.Symbol.TheVariants.{Token, Rule, Action}
@@ -35,20 +36,25 @@ module _ {V : Type 0} (act : ℕ → ℕ → V → V) where
 -- the symbols lead from the one token and stack to the other
 pub data Walks {V : Type 0} (g : Rules) (K : List ℕ) (act : ℕ → ℕ → V → V) : ℕ → List Symbol → V → ℕ → V → Type 0 where
   done : {i : ℕ} {s : V} → Walks g K act i [] s i s
-  here : {i j k : ℕ} {σ : List Symbol} {s t : V} → slice_get K i ≡ Some k → Walks g K act (suc i) σ s j t → Walks g K act i (Token k ∷ σ) s j t
-  acts : {i j a : ℕ} {σ : List Symbol} {s t : V} → Walks g K act i σ (act a i s) j t → Walks g K act i (Action a ∷ σ) s j t
-  goes : {i m j n : ℕ} {σ body : List Symbol} {s r t : V} → Produces g n body → Walks g K act i body s m r → Walks g K act m σ r j t → Walks g K act i (Rule n ∷ σ) s j t
+  here : {i j k : ℕ} {σ : List Symbol} {s t : V} → slice_get K i ≡ Some k → Walks g K act (suc i) σ s j t
+      → Walks g K act i (Token k ∷ σ) s j t
+  acts : {i j a : ℕ} {σ : List Symbol} {s t : V} → Walks g K act i σ (act a i s) j t
+      → Walks g K act i (Action a ∷ σ) s j t
+  goes : {i m j n : ℕ} {σ body : List Symbol} {s r t : V} → Produces g n body → Walks g K act i body s m r
+      → Walks g K act m σ r j t → Walks g K act i (Rule n ∷ σ) s j t
 
 module _ {V : Type 0} (g : Rules) (K : List ℕ) (act : ℕ → ℕ → V → V) where
   -- one behind another
-  pub both : (i m j : ℕ) (σ τ : List Symbol) (s r t : V) → Walks g K act i σ s m r → Walks g K act m τ r j t → Walks g K act i (σ ++ τ) s j t
+  pub both : (i m j : ℕ) (σ τ : List Symbol) (s r t : V) → Walks g K act i σ s m r → Walks g K act m τ r j t
+      → Walks g K act i (σ ++ τ) s j t
   both i m j σ τ s r t done v = v
   both i m j σ τ s r t (here {k = k} {σ = ρ} h w) v = here h (both (suc i) m j ρ τ s r t w v)
   both i m j σ τ s r t (acts {a = a} {σ = ρ} w) v = acts (both i m j ρ τ (act a i s) r t w v)
   both i m j σ τ s r t (goes {m = l} {σ = ρ} {r = q} P u w) v = goes P u (both l m j ρ τ q r t w v)
 
   -- a walk is a derivation whose actions make its stack
-  pub flat : (i j : ℕ) (σ τ : List Symbol) (s t : V) (es : List Event) → Walks g K act i σ s j t → Derives g j τ (drop j K) es
+  pub flat : (i j : ℕ) (σ τ : List Symbol) (s t : V) (es : List Event) → Walks g K act i σ s j t
+      → Derives g j τ (drop j K) es
       → (fs : List Event) × Derives g i (σ ++ τ) (drop i K) fs × (run act fs s ≡ run act es t)
   flat i j σ τ s t es done d = (es, d, refl)
   flat i j σ τ s t es (here {k = k} {σ = ρ} h w) d =
@@ -98,9 +104,11 @@ module _ {V : Type 0} (K : List ℕ) (act : ℕ → ℕ → V → V) (R : AllKep
   Closes n [] = Unit {0}
   Closes n (b ∷ bs) = ((i : ℕ) (s : V) → After i b s (Left n i s)) × Closes n bs
 
-  closes_at : (n p : ℕ) (bs : List (List Symbol)) (body : List Symbol) → Closes n bs → slice_get bs p ≡ Some body → (i : ℕ) (s : V) → After i body s (Left n i s)
+  closes_at : (n p : ℕ) (bs : List (List Symbol)) (body : List Symbol) → Closes n bs → slice_get bs p ≡ Some body
+      → (i : ℕ) (s : V) → After i body s (Left n i s)
   closes_at n p [] body c h = cc
-  closes_at n zero (b ∷ bs) body c h = subst (λ z. (i : ℕ) (s : V) → After i z s (Left n i s)) (let e : b ≡ body = cc in e) c.0
+  closes_at n zero (b ∷ bs) body c h =
+      subst (λ z. (i : ℕ) (s : V) → After i z s (Left n i s)) (let e : b ≡ body = cc in e) c.0
   closes_at n (suc p) (b ∷ bs) body c h = closes_at n p bs body c.1 h
 
   -- each alternative of each rule is a word of it
@@ -111,19 +119,25 @@ module _ {V : Type 0} (K : List ℕ) (act : ℕ → ℕ → V → V) (R : AllKep
   close_at : (es : Rules) (n b : ℕ) → AllClose b es → Closes (b + n) (alternatives es n)
   close_at [] n b c = tt
   close_at (e ∷ es) zero b c = subst (λ z. Closes z e) (let q : b ≡ b + 0 = omega arith in q) c.0
-  close_at (e ∷ es) (suc n) b c = subst (λ z. Closes z (alternatives es n)) (let q : suc b + n ≡ b + suc n = omega arith in q) (close_at es n (suc b) c.1)
+  close_at (e ∷ es) (suc n) b c =
+      subst (λ z. Closes z (alternatives es n)) (let q : suc b + n ≡ b + suc n = omega arith in q)
+      (close_at es n (suc b) c.1)
 
-  bind : (i : ℕ) (σ τ : List Symbol) (s : V) (D C : ℕ → V → Type 0) → After i σ s D → ((j : ℕ) (t : V) → D j t → After j τ t C) → After i (σ ++ τ) s C
+  bind : (i : ℕ) (σ τ : List Symbol) (s : V) (D C : ℕ → V → Type 0) → After i σ s D
+      → ((j : ℕ) (t : V) → D j t → After j τ t C) → After i (σ ++ τ) s C
   bind i [] τ s D C d f = f i s d
   bind i (Token k ∷ σ) τ s D C d f = λ h. bind (suc i) σ τ s D C (d h) f
   bind i (Rule n ∷ σ) τ s D C d f = λ w. bind ((of R n).end i s w) σ τ ((of R n).stack i s w) D C (d w) f
   bind i (Action a ∷ σ) τ s D C d f = bind i σ τ (act a i s) D C d f
 
-  to_left : (n i j : ℕ) (s t : V) (ρ : List Symbol) (C : ℕ → V → Type 0) → After i (Rule n ∷ ρ) s C → Left n i s j t → After j ρ t C
-  to_left n i j s t ρ C w left = subst (λ z. After z ρ t C) left.1 (subst (λ z. After ((of R n).end i s left.0) ρ z C) left.2 (w left.0))
+  to_left : (n i j : ℕ) (s t : V) (ρ : List Symbol) (C : ℕ → V → Type 0) → After i (Rule n ∷ ρ) s C → Left n i s j t
+      → After j ρ t C
+  to_left n i j s t ρ C w left =
+      subst (λ z. After z ρ t C) left.1 (subst (λ z. After ((of R n).end i s left.0) ρ z C) left.2 (w left.0))
 
   -- what a derivation leads to
-  pub sound : (g : Rules) → AllClose 0 g → (i : ℕ) (σ : List Symbol) (ks : List ℕ) (es : List Event) (s : V) (C : ℕ → V → Type 0)
+  pub sound : (g : Rules) → AllClose 0 g
+      → (i : ℕ) (σ : List Symbol) (ks : List ℕ) (es : List Event) (s : V) (C : ℕ → V → Type 0)
       → Derives g i σ ks es → i ≤ length K → drop i K ≡ ks → After i σ s C → C (length K) (run act es s)
   sound g c i σ ks es s C nothing l e w = subst (λ z. C z s) (at_end K i l e) w
   sound g c i σ ks es s C (token {k = k} {σ = ρ} {ks = js} d) l e w =
@@ -132,4 +146,6 @@ module _ {V : Type 0} (K : List ℕ) (act : ℕ → ℕ → V → V) (R : AllKep
   sound g c i σ ks es s C (action {a = a} {σ = ρ} {es = fs} d) l e w = sound g c i ρ ks fs (act a i s) C d l e w
   sound g c i σ ks es s C (rule {n = n} {σ = ρ} {body = body} P d) l e w =
       let keeps = subst (λ z. Closes z (alternatives g n)) (let q : 0 + n ≡ n = omega arith in q) (close_at g n 0 c) in
-      sound g c i (body ++ ρ) ks es s C d l e (bind i body ρ s (Left n i s) C (closes_at n P.number (alternatives g n) body keeps P.found i s) (λ j t left. to_left n i j s t ρ C w left))
+      sound g c i (body ++ ρ) ks es s C d l e
+      (bind i body ρ s (Left n i s) C (closes_at n P.number (alternatives g n) body keeps P.found i s)
+      (λ j t left. to_left n i j s t ρ C w left))

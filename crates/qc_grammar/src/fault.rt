@@ -1,5 +1,5 @@
 // Why a list of tokens has no tree.
-use qc_data::Memory;
+use qc_containers::Memory;
 use thiserror::Error;
 
 /// Why a list of tokens has no tree.

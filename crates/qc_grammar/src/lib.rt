@@ -2,13 +2,13 @@
 #![tactic(auto)]
 
 mod fault;
-mod grammar;
 mod machine;
 mod stack;
 mod symbol;
+mod table;
 
 pub use fault::SyntaxFault;
-pub use grammar::Grammar;
 pub use machine::read;
 pub use stack::Stack;
 pub use symbol::{Event, Symbol};
+pub use table::Table;

@@ -1,7 +1,7 @@
 // Stacks.
 ghost use Rattle.std.specs.Prelude.{◌≡◌, [], ◌∷◌, MatchOption, OnOk};
 
-use qc_data::Memory;
+use qc_containers::Memory;
 use std::alloc::Global;
 use std::marker::Model;
 

@@ -24,9 +24,9 @@ abbrev pub with_failing : CallsState → ℕ → CallsState
 with_failing calls call = record calls { failing = calls.failing ++ call ∷ [] }
 
 -- one more call was made
-abbrev pub called : CallsState → CallsState
-called calls = record calls { made = next calls.made }
+abbrev pub with_call : CallsState → CallsState
+with_call calls = record calls { made = next calls.made }
 
 -- one more fault came
-abbrev pub faulted : CallsState → CallsState
-faulted calls = record calls { faults = next calls.faults }
+abbrev pub with_fault : CallsState → CallsState
+with_fault calls = record calls { faults = next calls.faults }

@@ -17,5 +17,5 @@ abbrev pub IsOverfull : SinkState → List ℕ → Type 0
 IsOverfull sink piece = sink.room < length sink.bytes + length piece
 
 -- the front of the piece that fits
-abbrev pub fitting : SinkState → List ℕ → List ℕ
-fitting sink piece = take (sink.room - length sink.bytes) piece
+abbrev pub what_fits : SinkState → List ℕ → List ℕ
+what_fits sink piece = take (sink.room - length sink.bytes) piece

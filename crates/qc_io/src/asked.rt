@@ -3,7 +3,7 @@ ghost use Rattle.std.specs.Prelude.{◌≡◌, [], ◌∷◌, Some, OnOk, map, o
 ghost use Rattle.std.specs.String.{string_bytes};
 ghost use Rattle.qc_io.specs.Device.{HasAsked};
 
-use qc_data::Memory;
+use qc_containers::Memory;
 use std::alloc::Global;
 use std::marker::Model;
 

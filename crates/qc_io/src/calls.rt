@@ -1,8 +1,8 @@
 // The calls of a device in memory: which are to fail, and how many there were.
 ghost use Rattle.std.specs.Prelude.{◌≡◌, ◌≤◌, ◌↔◌, IsTrue, OnOk, OnErr};
-ghost use Rattle.qc_io.specs.Calls.{no_calls, FailsNext, with_failing, called, faulted};
+ghost use Rattle.qc_io.specs.Calls.{no_calls, FailsNext, with_failing, with_call, with_fault};
 
-use qc_data::Memory;
+use qc_containers::Memory;
 use std::alloc::Global;
 use std::marker::Model;
 
@@ -46,7 +46,7 @@ impl Calls {
     /// Counts a call, and answers whether it is to fail.
     pub(crate) fn count_call(&mut self) -> bool
         ensures fails { IsTrue result ↔ FailsNext self.old }
-        ensures counted { self.new ≡ called self.old }
+        ensures counted { self.new ≡ with_call self.old }
     {
         self.made = self.made.saturating_add(1);
         self.failing.contains(&self.made)
@@ -54,7 +54,7 @@ impl Calls {
 
     /// Counts a fault.
     pub(crate) fn count_fault(&mut self)
-        ensures counted { self.new ≡ faulted self.old }
+        ensures counted { self.new ≡ with_fault self.old }
         ensures rises { self.old.faults ≤ self.new.faults }
     {
         self.faults = self.faults.saturating_add(1);

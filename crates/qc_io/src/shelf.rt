@@ -3,14 +3,14 @@ ghost use Rattle.std.specs.Prelude.{◌≡◌, ◌≤◌, ◌<◌, ◌+◌, ◌�
 ghost use Rattle.std.specs.Prelude.{IsErrOf, Contains, MatchOption};
 ghost use Rattle.std.specs.Prelude.{map, option_map};
 ghost use Rattle.std.specs.String.{string_bytes};
-ghost use Rattle.qc_io.specs.Calls.{FailsNext, with_failing, called, faulted};
+ghost use Rattle.qc_io.specs.Calls.{FailsNext, with_failing, with_call, with_fault};
 ghost use Rattle.qc_io.specs.Device.{Rose, IsText, IsTooLong, IsMissing, HasAsked};
 ghost use Rattle.qc_io.specs.MemShelf.{no_texts, text_of};
 
 use crate::asked::Asked;
 use crate::calls::Calls;
 use crate::{FetchFault, Shelf};
-use qc_data::Memory;
+use qc_containers::Memory;
 use std::alloc::Global;
 use std::marker::Model;
 
@@ -127,9 +127,9 @@ impl Shelf for MemShelf {
         ensures refused { IsErrOf result FetchFault.Failed
             ↔ (FailsNext self.old.calls ⊎ (text_of self.old.texts name.now ≡ None)) }
         ensures listed { FailsNext self.old.calls
-            → self.new ≡ record self.old { calls = faulted (called self.old.calls); asked = self.new.asked } }
+            → self.new ≡ record self.old { calls = with_fault (with_call self.old.calls); asked = self.new.asked } }
         ensures unlisted { ¬ FailsNext self.old.calls
-            → self.new ≡ record self.old { calls = called self.old.calls; asked = self.new.asked } }
+            → self.new ≡ record self.old { calls = with_call self.old.calls; asked = self.new.asked } }
     {
         into.clear();
         self.asked.note(self.alloc, name);

@@ -1,13 +1,13 @@
 // A sink in memory, whose failing calls are listed beforehand.
 ghost use Rattle.std.specs.Prelude.{◌≡◌, ◌≤◌, ◌<◌, ◌+◌, ◌-◌, ◌⊎◌, ◌↔◌, ◌++◌, ◌∷◌, [], Some, IfOk, OnOk, OnErr, IsErr};
 ghost use Rattle.std.specs.Prelude.{IsTrue, Contains, length, take, vec_len, vec_capacity};
-ghost use Rattle.qc_io.specs.Calls.{FailsNext, with_failing, called, faulted};
+ghost use Rattle.qc_io.specs.Calls.{FailsNext, with_failing, with_call, with_fault};
 ghost use Rattle.qc_io.specs.Device.{Rose, AppendsFront};
-ghost use Rattle.qc_io.specs.MemSink.{no_bytes, IsOverfull, fitting};
+ghost use Rattle.qc_io.specs.MemSink.{no_bytes, IsOverfull, what_fits};
 
 use crate::calls::Calls;
 use crate::{Failed, Sink};
-use qc_data::Memory;
+use qc_containers::Memory;
 use std::alloc::Global;
 use std::marker::Model;
 
@@ -88,12 +88,12 @@ impl Sink for MemSink {
         ensures refused { IsErr result
             ↔ (FailsNext self.old.calls ⊎ IsOverfull self.old piece.now) }
         ensures taken { OnOk result (self.new ≡ record self.old
-            { bytes = self.old.bytes ++ piece.now; calls = called self.old.calls }) }
+            { bytes = self.old.bytes ++ piece.now; calls = with_call self.old.calls }) }
         ensures listed { FailsNext self.old.calls
-            → self.new ≡ record self.old { calls = faulted (called self.old.calls) } }
+            → self.new ≡ record self.old { calls = with_fault (with_call self.old.calls) } }
         ensures full { ¬ FailsNext self.old.calls → IsOverfull self.old piece.now
             → self.new ≡ record self.old
-            { bytes = self.old.bytes ++ fitting self.old piece.now; calls = faulted (called self.old.calls) } }
+            { bytes = self.old.bytes ++ what_fits self.old piece.now; calls = with_fault (with_call self.old.calls) } }
     {
         if self.calls.count_call() {
             self.calls.count_fault();

@@ -1,5 +1,6 @@
 -- Trees with the same tokens are the same tree.
-use Rattle.std.proofs.Common.{◌≡◌, ◌≢◌, ◌==◌, false, ℕ, ℤ, ◌++◌, List, [], ◌∷◌, map, codes, arith, refl, sym, ap, ◌∙◌, append_assoc}
+use Rattle.std.proofs.Common.{◌≡◌, ◌≢◌, ◌==◌, false, ℕ, ℤ, ◌++◌, List, [], ◌∷◌, map, codes, arith, refl, sym, ap, ◌∙◌}
+use Rattle.std.proofs.Common.{append_assoc}
 use Rattle.std.proofs.lemmas.Bool.Decides.{nat_tests}
 use Rattle.std.specs.List.{AllByRecursion}
 use Rattle.qc_js.specs.declared.tree.Function.{Function}
@@ -13,7 +14,8 @@ use Rattle.qc_js.proofs.Forms.{expr_tokens-Int, expr_tokens-Array, expr_tokens-C
 use Rattle.qc_js.proofs.Induction.{induction}
 
 -- by the three forms
-by_form : (P : Expr → Type 0) → ((n : ℤ) → P (Int n)) → ((es : List Expr) → P (Array es)) → ((f : Function) (es : List Expr) → P (Call f es)) → (e : Expr) → P e
+by_form : (P : Expr → Type 0) → ((n : ℤ) → P (Int n)) → ((es : List Expr) → P (Array es))
+    → ((f : Function) (es : List Expr) → P (Call f es)) → (e : Expr) → P e
 by_form P i a c = induction P i (λ es h. a es) (λ f es h. c f es)
 
 -- these tokens end where those of any other expression do, and only for the same expression
@@ -25,7 +27,10 @@ P e = (f : Expr) → Ends e (expr_tokens e) f
 
 -- the one mark that an expression begins with
 first_mark : (m : ℕ) (us : List Token) (e : Expr) → (vs : List Token) → Mark m ∷ us ≡ expr_tokens e ++ vs → m ≡ 91
-first_mark m us = by_form (λ e. (vs : List Token) → Mark m ∷ us ≡ expr_tokens e ++ vs → m ≡ 91) (λ n. rw (expr_tokens-Int n) (λ vs q. cc)) (λ es. rw (expr_tokens-Array es) (λ vs q. cc)) (λ f es. rw (expr_tokens-Call f es) (λ vs q. cc))
+first_mark m us =
+    by_form (λ e. (vs : List Token) → Mark m ∷ us ≡ expr_tokens e ++ vs → m ≡ 91)
+    (λ n. rw (expr_tokens-Int n) (λ vs q. cc)) (λ es. rw (expr_tokens-Array es) (λ vs q. cc))
+    (λ f es. rw (expr_tokens-Call f es) (λ vs q. cc))
 
 -- ---- the parts between two marks
 
@@ -38,9 +43,13 @@ more es = after_commas (map expr_tokens es)
 abbrev whole : List Expr → List Token
 whole es = separated (map expr_tokens es)
 
-part_and_more : (e f : Expr) (es fs : List Expr) (m : ℕ) → P e → AreEnded more m es fs → (us vs : List Token) → (expr_tokens e ++ more es) ++ Mark m ∷ us ≡ (expr_tokens f ++ more fs) ++ Mark m ∷ vs → (e ∷ es ≡ f ∷ fs) × (us ≡ vs)
+part_and_more : (e f : Expr) (es fs : List Expr) (m : ℕ) → P e → AreEnded more m es fs → (us vs : List Token)
+    → (expr_tokens e ++ more es) ++ Mark m ∷ us ≡ (expr_tokens f ++ more fs) ++ Mark m ∷ vs
+    → (e ∷ es ≡ f ∷ fs) × (us ≡ vs)
 part_and_more e f es fs m p h us vs q =
-    let r = p f (more es ++ Mark m ∷ us) (more fs ++ Mark m ∷ vs) (sym (append_assoc (expr_tokens e) (more es) (Mark m ∷ us)) ∙ q ∙ append_assoc (expr_tokens f) (more fs) (Mark m ∷ vs)) in
+    let r = p f (more es ++ Mark m ∷ us) (more fs ++ Mark m ∷ vs)
+    (sym (append_assoc (expr_tokens e) (more es) (Mark m ∷ us)) ∙ q
+    ∙ append_assoc (expr_tokens f) (more fs) (Mark m ∷ vs)) in
     let s = h us vs r.1 in
     (cc (r.0, s.0), s.1)
 
@@ -52,8 +61,11 @@ more_ended m c (e ∷ es) (f ∷ fs) h us vs q = part_and_more e f es fs m h.0 (
 
 parts_ended : (m : ℕ) → m ≢ 44 → m ≢ 91 → (es fs : List Expr) → AllByRecursion P es → AreEnded whole m es fs
 parts_ended m c o [] [] h us vs q = (refl, cc)
-parts_ended m c o [] (f ∷ fs) h us vs q = absurd (o (first_mark m us f (more fs ++ Mark m ∷ vs) (q ∙ append_assoc (expr_tokens f) (more fs) (Mark m ∷ vs))))
-parts_ended m c o (e ∷ es) [] h us vs q = absurd (o (first_mark m vs e (more es ++ Mark m ∷ us) (sym q ∙ append_assoc (expr_tokens e) (more es) (Mark m ∷ us))))
+parts_ended m c o [] (f ∷ fs) h us vs q =
+    absurd (o (first_mark m us f (more fs ++ Mark m ∷ vs) (q ∙ append_assoc (expr_tokens f) (more fs) (Mark m ∷ vs))))
+parts_ended m c o (e ∷ es) [] h us vs q =
+    absurd (o (first_mark m vs e (more es ++ Mark m ∷ us)
+    (sym q ∙ append_assoc (expr_tokens e) (more es) (Mark m ∷ us))))
 parts_ended m c o (e ∷ es) (f ∷ fs) h us vs q = part_and_more e f es fs m h.0 (more_ended m c es fs h.1) us vs q
 
 -- ---- the forms
@@ -64,10 +76,13 @@ at_int n = by_form (λ f. Ends (Int n) (expr_tokens (Int n)) f)
     (λ es. rw (expr_tokens-Int n, expr_tokens-Array es) (λ us vs q. absurd cc))
     (λ f es. rw (expr_tokens-Int n, expr_tokens-Call f es) (λ us vs q. absurd cc))
 
-array_same : (es fs : List Expr) → AllByRecursion P es → (us vs : List Token) → Mark 91 ∷ ((whole es ++ Mark 93 ∷ []) ++ us) ≡ Mark 91 ∷ ((whole fs ++ Mark 93 ∷ []) ++ vs) → (Array es ≡ Array fs) × (us ≡ vs)
+array_same : (es fs : List Expr) → AllByRecursion P es → (us vs : List Token)
+    → Mark 91 ∷ ((whole es ++ Mark 93 ∷ []) ++ us) ≡ Mark 91 ∷ ((whole fs ++ Mark 93 ∷ []) ++ vs)
+    → (Array es ≡ Array fs) × (us ≡ vs)
 array_same es fs h us vs q =
     let t : (whole es ++ Mark 93 ∷ []) ++ us ≡ (whole fs ++ Mark 93 ∷ []) ++ vs = cc in
-    let r = parts_ended 93 (λ e. absurd (omega arith)) (λ e. absurd (omega arith)) es fs h us vs (sym (append_assoc (whole es) (Mark 93 ∷ []) us) ∙ t ∙ append_assoc (whole fs) (Mark 93 ∷ []) vs) in
+    let r = parts_ended 93 (λ e. absurd (omega arith)) (λ e. absurd (omega arith)) es fs h us vs
+    (sym (append_assoc (whole es) (Mark 93 ∷ []) us) ∙ t ∙ append_assoc (whole fs) (Mark 93 ∷ []) vs) in
     (ap Array r.0, r.1)
 
 at_array : (es : List Expr) → AllByRecursion P es → P (Array es)
@@ -96,11 +111,14 @@ name_same Sum Negate e = absurd (apart 115 110 refl (ap first e))
 name_same Sum Sum e = refl
 
 call_same : (f g : Function) (es fs : List Expr) → AllByRecursion P es → (us vs : List Token)
-    → Word (codes "rt") ∷ Mark 46 ∷ Word (name_of f) ∷ Mark 40 ∷ ((whole es ++ Mark 41 ∷ []) ++ us) ≡ Word (codes "rt") ∷ Mark 46 ∷ Word (name_of g) ∷ Mark 40 ∷ ((whole fs ++ Mark 41 ∷ []) ++ vs) → (Call f es ≡ Call g fs) × (us ≡ vs)
+    → Word (codes "rt") ∷ Mark 46 ∷ Word (name_of f) ∷ Mark 40 ∷ ((whole es ++ Mark 41 ∷ []) ++ us)
+    ≡ Word (codes "rt") ∷ Mark 46 ∷ Word (name_of g) ∷ Mark 40 ∷ ((whole fs ++ Mark 41 ∷ []) ++ vs)
+    → (Call f es ≡ Call g fs) × (us ≡ vs)
 call_same f g es fs h us vs q =
     let n : name_of f ≡ name_of g = cc in
     let t : (whole es ++ Mark 41 ∷ []) ++ us ≡ (whole fs ++ Mark 41 ∷ []) ++ vs = cc in
-    let r = parts_ended 41 (λ e. absurd (omega arith)) (λ e. absurd (omega arith)) es fs h us vs (sym (append_assoc (whole es) (Mark 41 ∷ []) us) ∙ t ∙ append_assoc (whole fs) (Mark 41 ∷ []) vs) in
+    let r = parts_ended 41 (λ e. absurd (omega arith)) (λ e. absurd (omega arith)) es fs h us vs
+    (sym (append_assoc (whole es) (Mark 41 ∷ []) us) ∙ t ∙ append_assoc (whole fs) (Mark 41 ∷ []) vs) in
     let s : f ≡ g = name_same f g n in
     (cc (r.0, s), r.1)
 

@@ -10,16 +10,21 @@ use Rattle.qc_js.specs.Token.{Token, Word, Mark, is_bits64}
 use Rattle.qc_js.specs.Token as token
 use Rattle.qc_js.specs.Layout.{name_of, separated, tokens_layer, expr_tokens}
 use Rattle.qc_js.specs.Program.{all_true, arity, arity_layer, has_arities}
-use Rattle.qc_js.specs.Text.{int_text, array_text, call_text, text_layer, expr_text, fits_layer, fits}
+use Rattle.qc_js.specs.inner.Text.{int_text, array_text, call_text, text_layer, expr_text, fits_layer, fits}
 
 pub expr_tokens-Int : (n : ℤ) → expr_tokens (Int n) ≡ token.Int n ∷ []
 expr_tokens-Int n = ap expr_tokens (sym (rolls-Int n)) ∙ fold-roll-Expr (List Token) tokens_layer (Expr-F.Int n)
 
-pub expr_tokens-Array : (es : List Expr) → expr_tokens (Array es) ≡ Mark 91 ∷ (separated (map expr_tokens es) ++ Mark 93 ∷ [])
-expr_tokens-Array es = ap expr_tokens (sym (rolls-Array es)) ∙ fold-roll-Expr (List Token) tokens_layer (Expr-F.Array es)
+pub expr_tokens-Array : (es : List Expr)
+    → expr_tokens (Array es) ≡ Mark 91 ∷ (separated (map expr_tokens es) ++ Mark 93 ∷ [])
+expr_tokens-Array es =
+    ap expr_tokens (sym (rolls-Array es)) ∙ fold-roll-Expr (List Token) tokens_layer (Expr-F.Array es)
 
-pub expr_tokens-Call : (f : Function) (es : List Expr) → expr_tokens (Call f es) ≡ Word (codes "rt") ∷ Mark 46 ∷ Word (name_of f) ∷ Mark 40 ∷ (separated (map expr_tokens es) ++ Mark 41 ∷ [])
-expr_tokens-Call f es = ap expr_tokens (sym (rolls-Call f es)) ∙ fold-roll-Expr (List Token) tokens_layer (Expr-F.Call f es)
+pub expr_tokens-Call : (f : Function) (es : List Expr)
+    → expr_tokens (Call f es) ≡ Word (codes "rt") ∷ Mark 46 ∷ Word (name_of f) ∷ Mark 40
+    ∷ (separated (map expr_tokens es) ++ Mark 41 ∷ [])
+expr_tokens-Call f es =
+    ap expr_tokens (sym (rolls-Call f es)) ∙ fold-roll-Expr (List Token) tokens_layer (Expr-F.Call f es)
 
 pub expr_text-Int : (n : ℤ) → expr_text (Int n) ≡ int_text n
 expr_text-Int n = ap expr_text (sym (rolls-Int n)) ∙ fold-roll-Expr (List ℕ) text_layer (Expr-F.Int n)
@@ -45,6 +50,7 @@ has_arities-Int n = ap has_arities (sym (rolls-Int n)) ∙ fold-roll-Expr Bool a
 pub has_arities-Array : (es : List Expr) → has_arities (Array es) ≡ all_true (map has_arities es)
 has_arities-Array es = ap has_arities (sym (rolls-Array es)) ∙ fold-roll-Expr Bool arity_layer (Expr-F.Array es)
 
-pub has_arities-Call : (f : Function) (es : List Expr) → has_arities (Call f es) ≡ ((length es == arity f) && all_true (map has_arities es))
+pub has_arities-Call : (f : Function) (es : List Expr)
+    → has_arities (Call f es) ≡ ((length es == arity f) && all_true (map has_arities es))
 has_arities-Call f es = ap has_arities (sym (rolls-Call f es)) ∙ fold-roll-Expr Bool arity_layer (Expr-F.Call f es)
     ∙ ap (λ n. (n == arity f) && all_true (map has_arities es)) (length-map es has_arities)

@@ -8,7 +8,9 @@ use Rattle.qc_js.specs.declared.tree.Expr.TheViews.{roll-Expr}
 use Rattle.qc_js.specs.declared.tree.Expr.TheFolds.{map-Expr, ind-Expr}
 use Rattle.qc_js.specs.declared.tree.Expr.TheVariants.{Int, Array, Call, rolls-Int, rolls-Array, rolls-Call}
 
-module _ (P : Expr → Type 0) (at_int : (n : ℤ) → P (Int n)) (at_array : (es : List Expr) → AllByRecursion P es → P (Array es)) (at_call : (f : Function) (es : List Expr) → AllByRecursion P es → P (Call f es)) where
+module _ (P : Expr → Type 0) (at_int : (n : ℤ) → P (Int n))
+    (at_array : (es : List Expr) → AllByRecursion P es → P (Array es))
+    (at_call : (f : Function) (es : List Expr) → AllByRecursion P es → P (Call f es)) where
   abbrev E : Type 0
   E = (e : Expr) × P e
 

@@ -3,7 +3,7 @@ use Rattle.std.proofs.Common.{◌≡◌, ℕ, List, true}
 use Rattle.qc_js.specs.declared.tree.Js.{Js}
 use Rattle.qc_js.specs.Layout.{layout}
 use Rattle.qc_js.specs.Program.{IsProgram}
-use Rattle.qc_js.specs.Text.{fits}
+use Rattle.qc_js.specs.inner.Text.{fits}
 use Rattle.qc_js.specs.Spelling.{Spells}
 use Rattle.qc_js.proofs.Distinct.{trees_same}
 use Rattle.qc_js.proofs.Scanned.{scans_once}

@@ -7,7 +7,8 @@ use Rattle.qc_js.specs.declared.tree.Expr.{Expr}
 use Rattle.qc_js.specs.declared.tree.Expr.TheOpen.{Expr-F}
 use Rattle.qc_js.specs.declared.tree.Expr.TheFolds.{fold-Expr}
 use Rattle.qc_js.specs.declared.tree.Js.{Js}
-use Rattle.qc_js.specs.Token.{Token, Word, Int, Mark, spelling, open_paren, close_paren, open_brace, close_brace, open_square, close_square, comma, semicolon, dot}
+use Rattle.qc_js.specs.Token.{Token, Word, Int, Mark, spelling, open_paren, close_paren, open_brace, close_brace}
+use Rattle.qc_js.specs.Token.{open_square, close_square, comma, semicolon, dot}
 
 -- the word of a function
 abbrev pub name_of : Function → List ℕ
@@ -29,7 +30,8 @@ separated (x ∷ xs) = x ++ after_commas xs
 abbrev pub tokens_layer : Expr-F (List Token) → List Token
 tokens_layer (Expr-F.Int n) = Int n ∷ []
 tokens_layer (Expr-F.Array xs) = open_square ∷ (separated xs ++ close_square ∷ [])
-tokens_layer (Expr-F.Call f xs) = Word (codes "rt") ∷ dot ∷ Word (name_of f) ∷ open_paren ∷ (separated xs ++ close_paren ∷ [])
+tokens_layer (Expr-F.Call f xs) =
+    Word (codes "rt") ∷ dot ∷ Word (name_of f) ∷ open_paren ∷ (separated xs ++ close_paren ∷ [])
 
 -- the tokens of an expression, in order
 abbrev pub expr_tokens : Expr → List Token
@@ -37,7 +39,9 @@ expr_tokens = fold-Expr (List Token) tokens_layer
 
 -- the tokens of a program: function query(w, rt) { return and the expression and ; }
 abbrev pub program_tokens : Js → List Token
-program_tokens tree = Word (codes "function") ∷ Word (codes "query") ∷ open_paren ∷ Word (codes "w") ∷ comma ∷ Word (codes "rt") ∷ close_paren
+program_tokens tree =
+    Word (codes "function") ∷ Word (codes "query") ∷ open_paren ∷ Word (codes "w") ∷ comma ∷ Word (codes "rt") ∷
+    close_paren
     ∷ open_brace ∷ Word (codes "return") ∷ (expr_tokens tree.result ++ semicolon ∷ close_brace ∷ [])
 
 -- what stands on the left of a gap: one of ( [ . or the word `for` or `if` or anything else

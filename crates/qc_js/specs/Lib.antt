@@ -1,7 +1,7 @@
+pub mod inner
 pub mod Layout
 pub mod Meaning
 pub mod Program
 pub mod Runtime
 pub mod Spelling
-pub mod Text
 pub mod Token

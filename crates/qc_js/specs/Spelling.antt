@@ -1,5 +1,6 @@
 -- Which tree a text spells.
-use Rattle.std.specs.Prelude.{◌≡◌, ℕ, ℤ, pos, ◌-ℤ◌, Bool, true, false, if◌then◌else◌, ◌==◌, ◌||◌, IsTrue, List, [], ◌∷◌, ◌++◌, take, decimal}
+use Rattle.std.specs.Prelude.{◌≡◌, ℕ, ℤ, pos, ◌-ℤ◌, Bool, true, false, if◌then◌else◌, ◌==◌, ◌||◌, IsTrue, List, [], ◌∷◌}
+use Rattle.std.specs.Prelude.{◌++◌, take, decimal}
 use Rattle.std.specs.Char.{is_ascii_alphabetic, is_ascii_alphanumeric}
 use Rattle.std.specs.Str.{bytes_eq}
 use Rattle.qc_js.specs.declared.tree.Js.{Js}
@@ -13,7 +14,8 @@ is_blank b = (b == 32) || (b == 9) || (b == 13) || (b == 10)
 
 -- the bytes ( ) { } [ ] , ; .
 abbrev pub is_mark : ℕ → Bool
-is_mark b = (b == 40) || (b == 41) || (b == 123) || (b == 125) || (b == 91) || (b == 93) || (b == 44) || (b == 59) || (b == 46)
+is_mark b =
+    (b == 40) || (b == 41) || (b == 123) || (b == 125) || (b == 91) || (b == 93) || (b == 44) || (b == 59) || (b == 46)
 
 -- U+2028 and U+2029 in UTF-8
 abbrev pub is_separator : List ℕ → Bool
@@ -58,11 +60,15 @@ pub record BeginsInt (text : List ℕ) (n : ℤ) (rest : List ℕ) : Type 0 wher
 -- the text has these tokens, by longest match, with blanks and comments anywhere between them
 pub data Scans : List ℕ → List Token → Type 0 where
   end : Scans [] []
-  blank : (b : ℕ) (text : List ℕ) (tokens : List Token) → IsTrue (is_blank b) → Scans text tokens → Scans (b ∷ text) tokens
+  blank : (b : ℕ) (text : List ℕ) (tokens : List Token) → IsTrue (is_blank b) → Scans text tokens
+      → Scans (b ∷ text) tokens
   comment : (text : List ℕ) (tokens : List Token) → Scans (past_line text) tokens → Scans (47 ∷ 47 ∷ text) tokens
-  word : (b : ℕ) (text : List ℕ) (tokens : List Token) → IsTrue (is_ascii_alphabetic b) → Scans (past_word text) tokens → Scans (b ∷ text) (Word (b ∷ word_part text) ∷ tokens)
-  int : (n : ℤ) (text rest : List ℕ) (tokens : List Token) → BeginsInt text n rest → Scans rest tokens → Scans text (Int n ∷ tokens)
-  mark : (b : ℕ) (text : List ℕ) (tokens : List Token) → IsTrue (is_mark b) → Scans text tokens → Scans (b ∷ text) (Mark b ∷ tokens)
+  word : (b : ℕ) (text : List ℕ) (tokens : List Token) → IsTrue (is_ascii_alphabetic b) → Scans (past_word text) tokens
+      → Scans (b ∷ text) (Word (b ∷ word_part text) ∷ tokens)
+  int : (n : ℤ) (text rest : List ℕ) (tokens : List Token) → BeginsInt text n rest → Scans rest tokens
+      → Scans text (Int n ∷ tokens)
+  mark : (b : ℕ) (text : List ℕ) (tokens : List Token) → IsTrue (is_mark b) → Scans text tokens
+      → Scans (b ∷ text) (Mark b ∷ tokens)
 
 -- the text spells the tree: its tokens are the tree's, whose calls have the arguments that their functions take
 pub record Spells (text : List ℕ) (tree : Js) : Type 0 where

@@ -4,16 +4,17 @@ ghost use Rattle.std.specs.String.{string_bytes};
 ghost use Rattle.qc_js.specs.Layout.{name_of, layout};
 ghost use Rattle.qc_js.specs.Program.{all_true, IsProgram};
 ghost use Rattle.qc_js.specs.Spelling.{Spells};
-ghost use Rattle.qc_js.specs.Text.{int_text, comma_unless, parts, array_text, call_text, expr_text, program_text, fits};
+ghost use Rattle.qc_js.specs.inner.Text.{int_text, comma_unless, parts, array_text, call_text, expr_text, program_text};
+ghost use Rattle.qc_js.specs.inner.Text.{fits};
 ghost use Rattle.qc_js.specs.Token.{is_bits64};
 
 use crate::tree::{Expr, Function, Js};
 use itoa::Buffer;
-use qc_data::{List, Memory};
+use qc_containers::{List, Memory};
 use std::alloc::Global;
 
-/// The text of a program: its layout, which spells the program where each call has as many arguments as its function takes, and spells no other.
-/// `Err` is want of memory.
+/// The text of a program: its layout, which spells the program where each call has as many arguments as its function
+/// takes, and spells no other. `Err` is want of memory.
 pub fn emit_text(alloc: Global, tree: &Js) -> Result<String, Memory>
     ensures text { IfOk result (λ text. string_bytes text ≡ layout tree.now) }
     ensures spells { IfOk result (λ text. IsProgram tree.now → Spells (string_bytes text) tree.now) }
@@ -58,7 +59,8 @@ fn push_int(text: &mut String, n: i64) -> Result<(), Memory>
 
 #[cycle(push)]
 fn push_array(text: &mut String, members: &List<Expr>) -> Result<(), Memory>
-    ensures text { OnOk result (string_bytes text.new ≡ string_bytes text.old ++ array_text (map expr_text members.now)) }
+    ensures text { OnOk result
+        (string_bytes text.new ≡ string_bytes text.old ++ array_text (map expr_text members.now)) }
     ensures fits { OnOk result (IsTrue (all_true (map fits members.now))) }
 {
     text.push_str("[")?;
@@ -69,7 +71,8 @@ fn push_array(text: &mut String, members: &List<Expr>) -> Result<(), Memory>
 
 #[cycle(push)]
 fn push_call(text: &mut String, function: Function, arguments: &List<Expr>) -> Result<(), Memory>
-    ensures text { OnOk result (string_bytes text.new ≡ string_bytes text.old ++ call_text function (map expr_text arguments.now)) }
+    ensures text { OnOk result
+        (string_bytes text.new ≡ string_bytes text.old ++ call_text function (map expr_text arguments.now)) }
     ensures fits { OnOk result (IsTrue (all_true (map fits arguments.now))) }
 {
     text.push_str("rt.")?;

@@ -1,4 +1,4 @@
-use qc_data::List;
+use qc_containers::List;
 
 /// A function of the runtime.
 #[derive(Clone, Copy, Debug, PartialEq, Eq)]

@@ -10,7 +10,8 @@ use Rattle.qc_lang.specs.Growth.{IsGrown, grows_after}
 use Rattle.qc_lang.specs.Keeping.{Keeps}
 
 -- growth multiplies
-pub grown_after : (first second : Option ℕ) (a b c : ℕ) → IsGrown first a b → IsGrown second b c → IsGrown (grows_after first second) a c
+pub grown_after : (first second : Option ℕ) (a b c : ℕ) → IsGrown first a b → IsGrown second b c
+    → IsGrown (grows_after first second) a c
 grown_after None second a b c p q = tt
 grown_after (Some g) None a b c p q = tt
 grown_after (Some g) (Some h) a b c p q = omega (arith, mul-le-mul_left h p)

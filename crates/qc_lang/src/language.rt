@@ -26,7 +26,8 @@ pub trait Lang {
         ensures { Gives (meaning bits64 self.now world.now) result };
 
     /// A value within bounds is the value at any size, and a value at any size is within bounds the same or Range.
-    ghost agrees: { (low high : ℤ) (tree : Self) (world : WorldOf) → Agrees (meaning any_size tree world) (meaning (within low high) tree world) };
+    ghost agrees: { (low high : ℤ) (tree : Self) (world : WorldOf)
+        → Agrees (meaning any_size tree world) (meaning (within low high) tree world) };
 
     /// Every tree has a node.
     ghost sized: { (schema : SchemaOf) (tree : Self) → 1 ≤ size schema tree };

@@ -1,7 +1,7 @@
 // Two passes as one.
 use crate::language::Lang;
 use crate::passing::Pass;
-use qc_data::Memory;
+use qc_containers::Memory;
 use qc_types::Schema;
 use std::alloc::Global;
 use std::marker::PhantomData;

@@ -4,7 +4,7 @@ ghost use Rattle.qc_lang.specs.Keeping.{Keeps};
 ghost use Rattle.qc_lang.specs.Growth.{IsGrown};
 
 use crate::language::Lang;
-use qc_data::Memory;
+use qc_containers::Memory;
 use qc_types::Schema;
 use std::alloc::Global;
 

@@ -52,6 +52,8 @@ is_mark Rule b = among (codes "()-") b
 
 -- the marks of two bytes
 abbrev pub is_double : Table → List ℕ → Bool
-is_double Oql pair = bytes_eq pair (codes "!=") || bytes_eq pair (codes "<=") || bytes_eq pair (codes ">=") || bytes_eq pair (codes "||")
-is_double Sql pair = bytes_eq pair (codes "<>") || bytes_eq pair (codes "<=") || bytes_eq pair (codes ">=") || bytes_eq pair (codes "||")
+is_double Oql pair =
+    bytes_eq pair (codes "!=") || bytes_eq pair (codes "<=") || bytes_eq pair (codes ">=") || bytes_eq pair (codes "||")
+is_double Sql pair =
+    bytes_eq pair (codes "<>") || bytes_eq pair (codes "<=") || bytes_eq pair (codes ">=") || bytes_eq pair (codes "||")
 is_double Rule pair = false

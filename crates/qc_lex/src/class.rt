@@ -3,7 +3,7 @@ ghost use Rattle.std.specs.Prelude.{◌≡◌, ◌≤◌, ◌∷◌, length, tak
 ghost use Rattle.std.specs.List.{prefix_len};
 ghost use Rattle.std.specs.Char.{is_ascii_digit};
 ghost use Rattle.qc_lex.specs.Class as class;
-ghost use Rattle.qc_lex.specs.Steps.{kind_of};
+ghost use Rattle.qc_lex.specs.inner.Steps.{kind_of};
 
 use crate::token::{Kind, Table};
 

@@ -1,5 +1,5 @@
 // Why bytes gave no tokens.
-use qc_data::Memory;
+use qc_containers::Memory;
 use thiserror::Error;
 
 /// Why bytes gave no tokens.

@@ -1,11 +1,11 @@
 // What bytes begin with.
 ghost use Rattle.std.specs.Prelude.{◌≡◌, ◌≤◌, ◌∷◌, length, take, IfOk, IfSome};
-ghost use Rattle.qc_lex.specs.Steps as steps;
+ghost use Rattle.qc_lex.specs.inner.Steps as steps;
 
 use crate::digits::number;
 use crate::token::{Kind, Lexeme, Table};
 use crate::{class, quotes};
-use qc_data::{Chars, Memory};
+use qc_containers::{Chars, Memory};
 use std::alloc::Global;
 
 /// What bytes begin with.

@@ -1,9 +1,9 @@
 // Texts and names between quotes.
 ghost use Rattle.std.specs.Prelude.{◌≡◌, ◌≤◌, length, false, IfOk, IfSome};
 ghost use Rattle.qc_lex.specs.Pieces as pieces;
-ghost use Rattle.qc_lex.specs.Steps.{text_end};
+ghost use Rattle.qc_lex.specs.inner.Steps.{text_end};
 
-use qc_data::Memory;
+use qc_containers::Memory;
 use std::alloc::Global;
 
 /// How many bytes a text goes on behind its opening quote, up to and with its closing one.

@@ -7,7 +7,7 @@ use crate::fault::ScanFault;
 use crate::front::{Next, begins};
 use crate::token::{Lexeme, Placed, Table};
 use crate::words::Words;
-use qc_data::List;
+use qc_containers::List;
 use std::alloc::Global;
 
 /// The most tokens of a source.

@@ -1,5 +1,5 @@
 // Tokens and their kinds.
-use qc_data::Chars;
+use qc_containers::Chars;
 
 /// The table of a source language: which tokens and comments it has.
 #[derive(Clone, Copy, Debug, PartialEq, Eq)]

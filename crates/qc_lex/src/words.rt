@@ -7,7 +7,7 @@ ghost use Rattle.qc_lex.specs.Words as spec;
 use crate::digits::number;
 use crate::quotes;
 use crate::token::{Placed, Token};
-use qc_data::{Chars, List, Memory};
+use qc_containers::{Chars, List, Memory};
 use std::alloc::Global;
 use std::marker::Model;
 

@@ -1,18 +1,22 @@
 -- Members kept by how many copies of them there are.
-use Rattle.std.proofs.Common.{◌≡◌, ℕ, suc, ◌+◌, ◌<◌, Bool, true, false, cond, List, [], ◌∷◌, ◌++◌, map, length, take, drop, get_or, refl, sym, ap, ◌∙◌, add-one, drop-cons, append_assoc}
+use Rattle.std.proofs.Common.{◌≡◌, ℕ, suc, ◌+◌, ◌<◌, Bool, true, false, cond, List, [], ◌∷◌, ◌++◌, map, length, take}
+use Rattle.std.proofs.Common.{drop, get_or, refl, sym, ap, subst, ◌∙◌, add-one, drop-cons, append_assoc}
 use Rattle.std.specs.Prelude.{count_by}
 use Rattle.std.specs.List.{fold}
 use Rattle.std.specs.Ordering.{is_eq}
 use Rattle.std.proofs.Math.Seq.{take-suc}
-use Rattle.std.proofs.lemmas.List.{take-map, get_or-map}
+use Rattle.std.proofs.lemmas.List.{take-map, get_or-map, map-append}
 use Rattle.qc_data.specs.Order.{cmp, canon}
 use Rattle.qc_data.specs.declared.data.Datum.{Datum}
+use Rattle.qc_keys.specs.Counts.{count, equal, Tallies}
+use Rattle.qc_keys.proofs.Counting.{Tallies-more}
 use Rattle.qc_ops.specs.Bags.{kept_by}
-use Rattle.qc_ops.specs.Keeping.{keeps}
+use Rattle.qc_ops.specs.inner.Keeping.{keeps}
 use Rattle.qc_ops.specs.Sameness.{copies}
 use Rattle.qc_ops.specs.declared.copies.Keep.{Keep}
 
-fold-map : {X Y B : Type 0} (g : B → Y → B) (h : X → Y) (b : B) (xs : List X) → fold g b (map h xs) ≡ fold (λ z x. g z (h x)) b xs
+fold-map : {X Y B : Type 0} (g : B → Y → B) (h : X → Y) (b : B) (xs : List X)
+    → fold g b (map h xs) ≡ fold (λ z x. g z (h x)) b xs
 fold-map g h b [] = refl
 fold-map g h b (x ∷ xs) = fold-map g h (g b (h x)) xs
 
@@ -21,28 +25,55 @@ copies-canons : (d : Datum) (xs : List Datum) → count_by (λ c. is_eq (cmp (ca
 copies-canons d xs = fold-map (λ (n : ℕ) c. n + cond (is_eq (cmp (canon d) c)) 1 0) canon 0 xs
 
 -- what the code tests of canons is what the rule says of members
-pub tested : (rule : Keep) (xs ys own others : List Datum) (i : ℕ) (x c : Datum) → own ≡ map canon xs → others ≡ map canon ys → i < length xs → x ≡ get_or xs i x → c ≡ get_or own i c
-    → keeps rule (suc (count_by (λ d. is_eq (cmp c d)) (take i own))) (count_by (λ d. is_eq (cmp c d)) others) ≡ keeps rule (suc (copies x (take i xs))) (copies x ys)
+pub tested : (rule : Keep) (xs ys own others : List Datum) (i : ℕ) (x c : Datum) → own ≡ map canon xs
+    → others ≡ map canon ys → i < length xs → x ≡ get_or xs i x → c ≡ get_or own i c
+    → keeps rule (suc (count_by (λ d. is_eq (cmp c d)) (take i own))) (count_by (λ d. is_eq (cmp c d)) others)
+    ≡ keeps rule (suc (copies x (take i xs))) (copies x ys)
 tested rule xs ys own others i x c mine theirs lt at is =
     let sought : c ≡ canon x = is ∙ ap (λ l. get_or l i c) mine ∙ get_or-map canon xs i x c lt ∙ ap canon (sym at) in
     let before : take i own ≡ map canon (take i xs) = ap (take i) mine ∙ take-map canon i xs in
     rw (sought, before, theirs, copies-canons x (take i xs), copies-canons x ys) refl
+
+-- what the code tests by tallies is what the rule says of members
+pub told : (rule : Keep) (before ys : List Datum) (seen others : List (Datum × ℕ)) (x c : Datum) (n k : ℕ)
+    → Tallies seen (map canon before) → Tallies others (map canon ys) → c ≡ canon x → n ≡ suc (count c seen)
+    → k ≡ count c others
+    → keeps rule n k ≡ keeps rule (suc (copies x before)) (copies x ys)
+told rule before ys seen others x c n k mine theirs is counted there =
+    rw (counted, there, is, mine (canon x), theirs (canon x), copies-canons x before, copies-canons x ys) refl
+
+-- one member more counted
+pub tallied_more : (xs : List Datum) (i : ℕ) (x c : Datum) (old new : List (Datum × ℕ)) → i < length xs
+    → x ≡ get_or xs i x → c ≡ canon x → Tallies old (map canon (take i xs))
+    → ((d : Datum) → count d new ≡ count d old + cond (equal d c) 1 0)
+    → Tallies new (map canon (take (i + 1) xs))
+tallied_more xs i x c old new lt at is so_far more =
+    let ahead : take (suc i) xs ≡ take i xs ++ x ∷ [] = take-suc xs i x lt ∙ ap (λ y. take i xs ++ y ∷ []) (sym at) in
+    let all : map canon (take i xs) ++ c ∷ [] ≡ map canon (take (i + 1) xs) =
+    ap (λ k. map canon (take i xs) ++ k ∷ []) is ∙ sym (map-append canon (take i xs) (x ∷ []))
+    ∙ ap (map canon) (sym ahead) ∙ (λ k. map canon (take (sym (add-one i) k) xs)) in
+    subst (λ l. Tallies new l) all (Tallies-more old new (map canon (take i xs)) c so_far more)
 
 chosen : (b : Bool) (x : Datum) (zs : List Datum) → cond b (x ∷ zs) zs ≡ cond b (x ∷ []) [] ++ zs
 chosen true x zs = refl
 chosen false x zs = refl
 
 -- the members kept from a place on, by whether the one there is
-pub kept_next : (test : ℕ → Datum → Bool) (xs : List Datum) (i : ℕ) (x : Datum) (b : Bool) → i < length xs → x ≡ get_or xs i x → b ≡ test (suc (copies x (take i xs))) x
-    → kept_by test (take i xs) (drop i xs) ≡ cond b (x ∷ kept_by test (take (i + 1) xs) (drop (i + 1) xs)) (kept_by test (take (i + 1) xs) (drop (i + 1) xs))
+pub kept_next : (test : ℕ → Datum → Bool) (xs : List Datum) (i : ℕ) (x : Datum) (b : Bool) → i < length xs
+    → x ≡ get_or xs i x → b ≡ test (suc (copies x (take i xs))) x
+    → kept_by test (take i xs) (drop i xs)
+    ≡ cond b (x ∷ kept_by test (take (i + 1) xs) (drop (i + 1) xs)) (kept_by test (take (i + 1) xs) (drop (i + 1) xs))
 kept_next test xs i x b lt at is =
     let behind : drop i xs ≡ x ∷ drop (suc i) xs = drop-cons xs i x lt ∙ ap (λ y. y ∷ drop (suc i) xs) (sym at) in
     let ahead : take (suc i) xs ≡ take i xs ++ x ∷ [] = take-suc xs i x lt ∙ ap (λ y. take i xs ++ y ∷ []) (sym at) in
     rw (add-one, ahead, behind, is) refl
 
 -- one member more
-pub kept_more : (test : ℕ → Datum → Bool) (xs all next : List Datum) (i : ℕ) (x : Datum) (b : Bool) (whole : List Datum) → whole ≡ all ++ kept_by test (take i xs) (drop i xs) → i < length xs → x ≡ get_or xs i x
-    → b ≡ test (suc (copies x (take i xs))) x → next ≡ all ++ cond b (x ∷ []) [] → whole ≡ next ++ kept_by test (take (i + 1) xs) (drop (i + 1) xs)
+pub kept_more : (test : ℕ → Datum → Bool) (xs all next : List Datum) (i : ℕ) (x : Datum) (b : Bool) (whole : List Datum)
+    → whole ≡ all ++ kept_by test (take i xs) (drop i xs) → i < length xs → x ≡ get_or xs i x
+    → b ≡ test (suc (copies x (take i xs))) x → next ≡ all ++ cond b (x ∷ []) []
+    → whole ≡ next ++ kept_by test (take (i + 1) xs) (drop (i + 1) xs)
 kept_more test xs all next i x b whole so_far lt at is e =
     let rest = kept_by test (take (i + 1) xs) (drop (i + 1) xs) in
-    so_far ∙ ap (λ l. all ++ l) (kept_next test xs i x b lt at is ∙ chosen b x rest) ∙ sym (append_assoc all (cond b (x ∷ []) []) rest) ∙ ap (λ l. l ++ rest) (sym e)
+    so_far ∙ ap (λ l. all ++ l) (kept_next test xs i x b lt at is ∙ chosen b x rest)
+    ∙ sym (append_assoc all (cond b (x ∷ []) []) rest) ∙ ap (λ l. l ++ rest) (sym e)

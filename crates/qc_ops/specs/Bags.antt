@@ -26,10 +26,12 @@ only_member a = and_then (as_coll a) (λ xs. Value (optional (only_of xs)))
 abbrev pub flattened : Datum → Outcome Datum
 flattened a = and_then (as_coll a) (λ xs. bag (gather as_coll xs))
 
--- the members that the test keeps by how many copies of each there are up to and with it, where those of `before` came first
+-- the members that the test keeps by how many copies of each there are up to and with it, where those of `before` came
+-- first
 abbrev pub kept_by : (ℕ → Datum → Bool) → List Datum → List Datum → List Datum
 kept_by test before [] = []
-kept_by test before (x ∷ xs) = cond (test (suc (copies x before)) x) (x ∷ kept_by test (before ++ x ∷ []) xs) (kept_by test (before ++ x ∷ []) xs)
+kept_by test before (x ∷ xs) =
+    cond (test (suc (copies x before)) x) (x ∷ kept_by test (before ++ x ∷ []) xs) (kept_by test (before ++ x ∷ []) xs)
 
 -- the first occurrences
 abbrev pub firsts : List Datum → List Datum

@@ -1,10 +1,8 @@
 -- Rows by their values at names.
-use Rattle.std.specs.Prelude.{◌≡◌, ℕ, not, cond, List, [], ◌∷◌, map, filter, None}
-use Rattle.std.specs.Ordering.{is_eq}
+use Rattle.std.specs.Prelude.{◌≡◌, ℕ, not, List, map, filter, None}
 use Rattle.qc_data.specs.Kinds.{as_coll}
 use Rattle.qc_data.specs.Outcome.{Outcome, Value, and_then, each}
-use Rattle.qc_data.specs.Order.{cmp}
-use Rattle.qc_data.specs.Pairs.{lookup, put}
+use Rattle.qc_containers.specs.Pairs.{lookup, put}
 use Rattle.qc_data.specs.declared.data.Datum.{Datum}
 use Rattle.qc_data.specs.declared.data.Datum.TheVariants.{Coll, Rec}
 use Rattle.qc_ops.specs.Bags.{firsts}
@@ -27,14 +25,11 @@ group_of g pairs key = and_then (as_rec key) (λ fields. Value (Rec (put g (Coll
 -- group: a record for each key that is the same as none before it; Stuck where g is among the names
 abbrev pub grouped : List ℕ → List (List ℕ) → Datum → Outcome Datum
 grouped g names a =
-    and_then (as_coll a) (λ rows. only_if (not (is_among g names)) (and_then (each (keyed names) rows) (λ pairs. bag (each (group_of g pairs) (firsts (map (λ pair. pair.0) pairs))))))
+    and_then (as_coll a)
+    (λ rows. only_if (not (is_among g names))
+    (and_then (each (keyed names) rows)
+    (λ pairs. bag (each (group_of g pairs) (firsts (map (λ pair. pair.0) pairs))))))
 
 -- the record has no field of the name
 abbrev pub Lacks : List ℕ → Datum → Type 0
 Lacks name d = (fields : List (List ℕ × Datum)) → as_rec d ≡ Value fields → lookup name fields ≡ None
-
--- the rows that stand beside the canon
-abbrev pub rows_beside : Datum → List Datum → List Datum → List Datum
-rows_beside c [] rows = []
-rows_beside c (k ∷ ks) [] = []
-rows_beside c (k ∷ ks) (row ∷ rows) = cond (is_eq (cmp c k)) (row ∷ rows_beside c ks rows) (rows_beside c ks rows)

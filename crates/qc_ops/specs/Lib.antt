@@ -1,3 +1,4 @@
+pub mod inner
 pub mod Operands
 pub mod Sameness
 pub mod Truths
@@ -8,7 +9,4 @@ pub mod Records
 pub mod Sides
 pub mod Sorting
 pub mod Grouping
-pub mod Keeping
-pub mod Likeness
-pub mod Columns
 pub mod Operators

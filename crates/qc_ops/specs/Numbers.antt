@@ -1,5 +1,6 @@
 -- Integers, one, two and many. Each that an operator makes is bounded by `made`.
-use Rattle.std.specs.Prelude.{ℤ, pos, neg_ℤ, unsigned_abs, ◌+ℤ◌, ◌-ℤ◌, ◌*ℤ◌, int_div, int_rem, List, [], ◌∷◌, length, fold, Option, Some, None, option_map}
+use Rattle.std.specs.Prelude.{ℤ, pos, neg_ℤ, unsigned_abs, ◌+ℤ◌, ◌-ℤ◌, ◌*ℤ◌, int_div, int_rem, List, [], ◌∷◌, length}
+use Rattle.std.specs.Prelude.{fold, Option, Some, None, option_map}
 use Rattle.std.specs.Int.{int_min, int_max}
 use Rattle.qc_data.specs.Kinds.{as_int, as_coll, total, made}
 use Rattle.qc_data.specs.Outcome.{Mode, Outcome, Value, and_then, each}
@@ -52,7 +53,8 @@ maximum a = and_then (as_ints a) (λ ns. Value (optional (option_map Int (greate
 -- the total, which is not bounded itself, by the number of integers, toward zero
 abbrev pub mean_of : Mode → List ℤ → Outcome Datum
 mean_of m [] = Value (optional None)
-mean_of m (n ∷ ns) = and_then (made m (int_div (total (n ∷ ns)) (pos (length (n ∷ ns))))) (λ d. Value (optional (Some d)))
+mean_of m (n ∷ ns) =
+    and_then (made m (int_div (total (n ∷ ns)) (pos (length (n ∷ ns))))) (λ d. Value (optional (Some d)))
 
 -- avg
 abbrev pub average : Mode → Datum → Outcome Datum

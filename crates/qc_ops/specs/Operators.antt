@@ -8,7 +8,8 @@ use Rattle.qc_ops.specs.declared.op.Binary.{Binary}
 use Rattle.qc_ops.specs.declared.op.Binary.TheVariants as two
 use Rattle.qc_ops.specs.Bags.{bag_of, only_member, flattened, distinct, union, except, intersection, membership}
 use Rattle.qc_ops.specs.Grouping.{grouped}
-use Rattle.qc_ops.specs.Numbers.{negative, absolute, quotient, remainder, count, sum, minimum, maximum, average, addition, subtraction, multiplication, lesser, greater}
+use Rattle.qc_ops.specs.Numbers.{negative, absolute, quotient, remainder, count, sum, minimum, maximum, average}
+use Rattle.qc_ops.specs.Numbers.{addition, subtraction, multiplication, lesser, greater}
 use Rattle.qc_ops.specs.Records.{record_of, field, projection, concatenation, merger}
 use Rattle.qc_ops.specs.Sameness.{equality}
 use Rattle.qc_ops.specs.Sides.{on_left, on_right, class_value, content, cast}

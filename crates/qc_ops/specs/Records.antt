@@ -3,7 +3,7 @@ use Rattle.std.specs.Prelude.{ℕ, Bool, true, cond, List, [], ◌∷◌, filter
 use Rattle.std.specs.List.{list_any, list_all}
 use Rattle.std.specs.Str.{bytes_eq}
 use Rattle.qc_data.specs.Outcome.{Outcome, Value, and_then}
-use Rattle.qc_data.specs.Pairs.{lookup, put}
+use Rattle.qc_containers.specs.Pairs.{lookup, put}
 use Rattle.qc_data.specs.declared.data.Datum.{Datum}
 use Rattle.qc_data.specs.declared.data.Datum.TheVariants.{Coll, Rec}
 use Rattle.qc_ops.specs.Operands.{as_rec, found, only_if}
@@ -61,4 +61,6 @@ compatible fs gs = list_all (λ f. same_at f.1 (lookup f.0 gs)) fs
 
 -- merge
 abbrev pub merger : Datum → Datum → Outcome Datum
-merger a b = and_then (as_rec a) (λ fs. and_then (as_rec b) (λ gs. Value (Coll (cond (compatible fs gs) (Rec (over fs gs) ∷ []) []))))
+merger a b =
+    and_then (as_rec a)
+    (λ fs. and_then (as_rec b) (λ gs. Value (Coll (cond (compatible fs gs) (Rec (over fs gs) ∷ []) []))))

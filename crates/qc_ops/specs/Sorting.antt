@@ -7,7 +7,7 @@ use Rattle.std.specs.declared.cmp.Ordering.TheVariants.{Equal}
 use Rattle.qc_data.specs.Kinds.{as_int, as_coll}
 use Rattle.qc_data.specs.Order.{cmp, sort_by}
 use Rattle.qc_data.specs.Outcome.{Outcome, Value, Halts, and_then, each}
-use Rattle.qc_data.specs.Pairs.{lookup}
+use Rattle.qc_containers.specs.Pairs.{lookup}
 use Rattle.qc_data.specs.declared.data.Datum.{Datum}
 use Rattle.qc_data.specs.declared.data.Datum.TheVariants.{Unit as Nothing, Coll, Rec}
 use Rattle.qc_ops.specs.Operands.{as_bool, as_text, as_rec, found, only_if}
@@ -19,11 +19,14 @@ has_value (Halts why) = false
 
 -- the data are all integers, all texts or all truth values
 abbrev pub one_kind : List Datum → Bool
-one_kind ds = list_all (λ d. has_value (as_int d)) ds || (list_all (λ d. has_value (as_text d)) ds || list_all (λ d. has_value (as_bool d)) ds)
+one_kind ds =
+    list_all (λ d. has_value (as_int d)) ds
+    || (list_all (λ d. has_value (as_text d)) ds || list_all (λ d. has_value (as_bool d)) ds)
 
 -- the records' values at the name, which must all be there and of one kind
 abbrev pub column : List (List (List ℕ × Datum)) → List ℕ → Outcome (List Datum)
-column records name = and_then (each (λ fields. found (lookup name fields)) records) (λ ds. only_if (one_kind ds) (Value ds))
+column records name =
+    and_then (each (λ fields. found (lookup name fields)) records) (λ ds. only_if (one_kind ds) (Value ds))
 
 -- the value at a name that is there
 abbrev pub value_at : List ℕ → List (List ℕ × Datum) → Datum
@@ -41,4 +44,7 @@ row_cmp (key ∷ keys) fs gs = ordering_then (directed key.1 (value_at key.0 fs)
 -- order: those that tie keep their order
 abbrev pub ordered : List (List ℕ × Bool) → Datum → Outcome Datum
 ordered keys a =
-    and_then (as_coll a) (λ rows. and_then (each as_rec rows) (λ records. and_then (each (λ key. column records key.0) keys) (λ columns. Value (Coll (map Rec (sort_by (row_cmp keys) records))))))
+    and_then (as_coll a)
+    (λ rows. and_then (each as_rec rows)
+    (λ records. and_then (each (λ key. column records key.0) keys)
+    (λ columns. Value (Coll (map Rec (sort_by (row_cmp keys) records))))))

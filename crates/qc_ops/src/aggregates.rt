@@ -7,7 +7,8 @@ ghost use Rattle.qc_ops.specs.Numbers.{average, count, greatest_of, least_of, ma
 ghost use Rattle.qc_ops.specs.Operands.{optional};
 
 use crate::operands::{int_of, items_of, made, optional};
-use qc_data::{Datum, Halt, Memory};
+use qc_containers::Memory;
+use qc_data::{Datum, Halt};
 use std::alloc::Global;
 
 pub(crate) fn count(a: &Datum) -> Result<Datum, Halt>

@@ -1,5 +1,6 @@
 // The operators' values in 64 bits.
 ghost use Rattle.std.specs.Prelude.{ℤ};
+ghost use Rattle.qc_data.specs.declared.data.Datum.{Datum};
 ghost use Rattle.qc_data.specs.Outcome.{any_size, bits64, within, Agrees, Gives};
 ghost use Rattle.qc_ops.specs.Operators.{binary, unary};
 
@@ -21,11 +22,13 @@ use qc_data::{Datum, Halt};
 use qc_types::Classes;
 use std::alloc::Global;
 
-/// The operator's value on one operand in 64 bits. `Range`: an integer that it makes has more; `Stuck`: an operand is of
-/// another kind than it takes; `Memory`: memory was wanting. At any two bounds the value agrees with that at any size.
+/// The operator's value on one operand in 64 bits. `Range`: an integer that it makes has more; `Stuck`: an operand is
+/// of another kind than it takes; `Memory`: memory was wanting. On every operand the value at any two bounds agrees
+/// with that at any size.
 pub fn apply1(alloc: Global, classes: &Classes, op: &Unary, a: &Datum) -> Result<Datum, Halt>
     ensures value { Gives (unary bits64 classes.now op.now a.now) result }
-    ensures agrees { (low high : ℤ) → Agrees (unary any_size classes.now op.now a.now) (unary (within low high) classes.now op.now a.now) }
+    ensures agrees { (operand : Datum) (low high : ℤ)
+        → Agrees (unary any_size classes.now op.now operand) (unary (within low high) classes.now op.now operand) }
 {
     unary_value(alloc, classes, op, a)
 }
@@ -63,11 +66,13 @@ fn unary_value(alloc: Global, classes: &Classes, op: &Unary, a: &Datum) -> Resul
     }
 }
 
-/// The operator's value on two operands in 64 bits. `Range`: an integer that it makes has more; `Stuck`: an operand is of
-/// another kind than it takes; `Memory`: memory was wanting. At any two bounds the value agrees with that at any size.
+/// The operator's value on two operands in 64 bits. `Range`: an integer that it makes has more; `Stuck`: an operand
+/// is of another kind than it takes; `Memory`: memory was wanting. On all operands the value at any two bounds agrees
+/// with that at any size.
 pub fn apply2(alloc: Global, op: &Binary, a: &Datum, b: &Datum) -> Result<Datum, Halt>
     ensures value { Gives (binary bits64 op.now a.now b.now) result }
-    ensures agrees { (low high : ℤ) → Agrees (binary any_size op.now a.now b.now) (binary (within low high) op.now a.now b.now) }
+    ensures agrees { (first second : Datum) (low high : ℤ)
+        → Agrees (binary any_size op.now first second) (binary (within low high) op.now first second) }
 {
     binary_value(alloc, op, a, b)
 }

@@ -7,7 +7,8 @@ ghost use Rattle.qc_ops.specs.Sameness.{equality};
 
 use crate::copies::{Keep, has_same, is_same, kept};
 use crate::operands::{items_of, optional};
-use qc_data::{Datum, Halt, Items, Memory, copy};
+use qc_containers::Memory;
+use qc_data::{Datum, Halt, Items, copy};
 use std::alloc::Global;
 
 pub(crate) fn equality(alloc: Global, a: &Datum, b: &Datum) -> Result<Datum, Halt>

@@ -2,12 +2,13 @@
 ghost use Rattle.std.specs.Prelude.{◌≡◌};
 ghost use Rattle.std.specs.Option.{option_copied};
 ghost use Rattle.qc_data.specs.Outcome.{each};
-ghost use Rattle.qc_ops.specs.Columns.{all_of, are_columns, behind, is_column, is_of, is_some_of, GivesRefs};
+ghost use Rattle.qc_ops.specs.inner.Columns.{all_of, are_columns, behind, is_column, is_of, is_some_of, GivesRefs};
 ghost use Rattle.qc_ops.specs.Operands.{as_rec};
 
 use crate::op::Keys;
 use crate::operands::fields_of;
-use qc_data::{Datum, Fields, Halt, Name};
+use qc_containers::Name;
+use qc_data::{Datum, Fields, Halt};
 use std::alloc::Global;
 
 // A kind of values that rows may be ordered by.

@@ -5,9 +5,11 @@ ghost use Rattle.std.specs.Ordering.{is_eq};
 ghost use Rattle.qc_data.specs.Order.{canon, cmp};
 ghost use Rattle.qc_ops.specs.Bags.{kept_by};
 ghost use Rattle.qc_ops.specs.Sameness.{copies, same};
-ghost use Rattle.qc_ops.specs.Keeping.{keeps};
+ghost use Rattle.qc_ops.specs.inner.Keeping.{keeps};
 
-use qc_data::{Datum, Items, Memory, canon, cmp, copy};
+use qc_containers::Memory;
+use qc_data::{Datum, Items, canon, cmp, copy};
+use qc_keys::{Key, Tally};
 use std::alloc::Global;
 
 // Which copies of a member are kept.
@@ -30,13 +32,14 @@ pub(crate) fn kept(
 ) -> Result<Items, Memory>
     ensures { IfOk result (λ made. made ≡ kept_by (λ k item. keeps rule k (copies item elsewhere.now)) [] items.now) }
 {
-    let own_canons = canons(alloc, items)?;
-    let other_canons = canons(alloc, elsewhere)?;
-    let own = own_canons.as_slice();
-    let others = other_canons.as_slice();
+    let others = Tally::of(alloc, elsewhere)?;
+    let mut seen = Tally::new(alloc);
     let mut all = Items::new(alloc);
-    for (at, item) in items.iter().enumerate() {
-        if is_kept(rule, &own[at], &own[..at], others) {
+    for item in items {
+        let key = Key::of(alloc, item)?;
+        let there = others.count(&key);
+        let copies = seen.add(key)?;
+        if keeps(rule, copies, there) {
             all.add(copy(alloc, item)?)?;
         }
     }
@@ -45,7 +48,9 @@ pub(crate) fn kept(
 
 // Whether the rule keeps a member of the canon, given those of the members before it and those elsewhere.
 pub(crate) fn is_kept(rule: Keep, own: &Datum, before: &[Datum], elsewhere: &[Datum]) -> bool
-    ensures { result ≡ keeps rule (suc (count_by (λ c. is_eq (cmp own.now c)) before.now)) (count_by (λ c. is_eq (cmp own.now c)) elsewhere.now) }
+    ensures { result
+        ≡ keeps rule (suc (count_by (λ c. is_eq (cmp own.now c)) before.now))
+        (count_by (λ c. is_eq (cmp own.now c)) elsewhere.now) }
 {
     keeps(rule, equals(before, own) + 1, equals(elsewhere, own))
 }

@@ -2,10 +2,11 @@
 ghost use Rattle.std.specs.Prelude.{◌≡◌, length, zip, IfOk};
 ghost use Rattle.std.specs.List.{AllByRecursion};
 ghost use Rattle.qc_data.specs.Outcome.{and_then, each, Gives, Value};
-ghost use Rattle.qc_data.specs.Pairs.{put};
+ghost use Rattle.qc_containers.specs.Pairs.{put};
 ghost use Rattle.qc_data.specs.declared.data.Datum.TheVariants.{Coll, Rec};
 ghost use Rattle.qc_ops.specs.Bags.{firsts};
-ghost use Rattle.qc_ops.specs.Grouping.{group_of, grouped, rows_beside, Lacks};
+ghost use Rattle.qc_ops.specs.Grouping.{group_of, grouped, Lacks};
+ghost use Rattle.qc_ops.specs.inner.Beside.{rows_beside};
 ghost use Rattle.qc_ops.specs.Operands.{as_rec};
 ghost use Rattle.qc_ops.specs.Records.{projection};
 
@@ -14,7 +15,8 @@ use crate::joining::copy_fields;
 use crate::op::Names;
 use crate::operands::{fields_of, items_of};
 use crate::records::{is_among, projection};
-use qc_data::{Datum, Halt, Items, Memory, Name, cmp, copy};
+use qc_containers::{Memory, Name};
+use qc_data::{Datum, Halt, Items, cmp, copy};
 use std::alloc::Global;
 
 pub(crate) fn grouped(alloc: Global, g: &Name, names: &Names, a: &Datum) -> Result<Datum, Halt>

@@ -1,9 +1,10 @@
 // Two records in one.
 ghost use Rattle.std.specs.Prelude.{◌≡◌, [], ◌∷◌, ◌++◌, OnOk, IfOk};
-ghost use Rattle.qc_data.specs.Rising.{Rising};
+ghost use Rattle.qc_containers.specs.Rising.{Rising};
 ghost use Rattle.qc_ops.specs.Records.{over};
 
-use qc_data::{Datum, Fields, Memory, Name, copy};
+use qc_containers::{Memory, Name};
+use qc_data::{Datum, Fields, copy};
 use std::alloc::Global;
 use std::cmp::Ordering;
 

@@ -1,6 +1,7 @@
 // Integers, one and two.
 ghost use Rattle.qc_data.specs.Outcome.{bits64, Gives};
-ghost use Rattle.qc_ops.specs.Numbers.{absolute, addition, greater, lesser, multiplication, negative, quotient, remainder, subtraction};
+ghost use Rattle.qc_ops.specs.Numbers.{absolute, addition, greater, lesser, multiplication, negative, quotient};
+ghost use Rattle.qc_ops.specs.Numbers.{remainder, subtraction};
 
 use crate::divisor::Divisor;
 use crate::operands::{int_of, made};

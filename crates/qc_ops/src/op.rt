@@ -1,12 +1,12 @@
 // Operators.
 use crate::divisor::Divisor;
-use qc_data::{Chars, List, Name};
+use qc_containers::{Chars, List, Name};
 
 /// Names of fields. Of equal ones only the first counts.
 pub type Names = List<Name>;
 
-/// The names that rows are ordered by, the first first, each with whether it is ascending. Of equal names only the first
-/// counts.
+/// The names that rows are ordered by, the first first, each with whether it is ascending. Of equal names only the
+/// first counts.
 pub type Keys = List<(Name, bool)>;
 
 /// An operator on one value.

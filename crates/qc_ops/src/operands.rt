@@ -4,7 +4,8 @@ ghost use Rattle.qc_data.specs.Kinds.{as_coll, as_int, made};
 ghost use Rattle.qc_data.specs.Outcome.{bits64, Gives, GivesRef};
 ghost use Rattle.qc_ops.specs.Operands.{as_bool, as_brand, as_rec, as_text, optional};
 
-use qc_data::{Boxed, Chars, Datum, Fields, Halt, Items, Memory, Name};
+use qc_containers::{Boxed, Chars, Memory, Name};
+use qc_data::{Datum, Fields, Halt, Items};
 use std::alloc::Global;
 
 // The truth value that the datum is.

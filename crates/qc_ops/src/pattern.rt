@@ -1,6 +1,6 @@
 // Texts against patterns.
 ghost use Rattle.std.specs.Prelude.{◌≡◌, ◌∷◌, ◌<◌, ◌≤◌, [], chars, length, IfNone, IfSome};
-ghost use Rattle.qc_ops.specs.Likeness.{answer_of, passed, IsShorter};
+ghost use Rattle.qc_ops.specs.inner.Likeness.{answer_of, passed, IsShorter};
 ghost use Rattle.qc_ops.specs.Texts.{is_like};
 
 // How a pattern and a text go on together.

@@ -2,14 +2,16 @@
 ghost use Rattle.std.specs.Prelude.{◌≡◌, IfOk};
 ghost use Rattle.std.specs.Option.{option_copied};
 ghost use Rattle.qc_data.specs.Outcome.{Gives};
-ghost use Rattle.qc_data.specs.Rising.{Rising};
-ghost use Rattle.qc_ops.specs.Records.{compatible, concatenation, field, fields_at, has_names, is_among, merger, part_of, projection, record_of, same_at};
+ghost use Rattle.qc_containers.specs.Rising.{Rising};
+ghost use Rattle.qc_ops.specs.Records.{compatible, concatenation, field, fields_at, has_names, is_among, merger};
+ghost use Rattle.qc_ops.specs.Records.{part_of, projection, record_of, same_at};
 
 use crate::copies::is_same;
 use crate::joining::{over, put_last};
 use crate::op::Names;
 use crate::operands::fields_of;
-use qc_data::{Datum, Fields, Halt, Items, Memory, Name, copy};
+use qc_containers::{Memory, Name};
+use qc_data::{Datum, Fields, Halt, Items, copy};
 use std::alloc::Global;
 
 pub(crate) fn record_of(alloc: Global, name: &Name, a: &Datum) -> Result<Datum, Halt>

@@ -4,7 +4,8 @@ ghost use Rattle.qc_data.specs.Outcome.{Gives, Value, Outcome};
 ghost use Rattle.qc_ops.specs.Sides.{cast, class_value, content, is_under, on_left, on_right};
 
 use crate::operands::optional;
-use qc_data::{Boxed, Datum, Halt, Name, copy};
+use qc_containers::{Boxed, Name};
+use qc_data::{Datum, Halt, copy};
 use qc_types::Classes;
 use std::alloc::Global;
 

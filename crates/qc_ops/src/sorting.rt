@@ -4,14 +4,15 @@ ghost use Rattle.std.specs.Option.{option_copied};
 ghost use Rattle.qc_data.specs.Order.{cmp, sort_by};
 ghost use Rattle.qc_data.specs.Outcome.{Gives};
 ghost use Rattle.qc_data.specs.declared.data.Datum.TheVariants.{Rec, Unit as Nothing};
-ghost use Rattle.qc_ops.specs.Columns.{behind};
+ghost use Rattle.qc_ops.specs.inner.Columns.{behind};
 ghost use Rattle.qc_ops.specs.Sorting.{directed, ordered, row_cmp};
 
 use crate::columns::{are_columns, records_of};
 use crate::joining::copy_fields;
 use crate::op::Keys;
 use crate::operands::items_of;
-use qc_data::{Datum, Fields, Halt, Items, Memory, cmp};
+use qc_containers::Memory;
+use qc_data::{Datum, Fields, Halt, Items, cmp};
 use std::alloc::Global;
 use std::cmp::Ordering;
 
@@ -53,7 +54,9 @@ fn row_cmp(keys: &Keys, first: &Fields, second: &Fields) -> Ordering
 
 // How a value stands to another, or the other way round where it is descending.
 fn directed(ascending: bool, first: Option<&Datum>, second: Option<&Datum>) -> Ordering
-    ensures { result ≡ directed ascending (unwrap_or (option_copied first.entry) Nothing) (unwrap_or (option_copied second.entry) Nothing) }
+    ensures { result
+        ≡ directed ascending (unwrap_or (option_copied first.entry) Nothing)
+        (unwrap_or (option_copied second.entry) Nothing) }
 {
     if ascending {
         value_cmp(first, second)
@@ -65,7 +68,8 @@ fn directed(ascending: bool, first: Option<&Datum>, second: Option<&Datum>) -> O
 // How a value stands to another, where none counts as unit.
 #[tactic(auto, using(crate::proofs::RowOrder::same_units))]
 fn value_cmp(first: Option<&Datum>, second: Option<&Datum>) -> Ordering
-    ensures { result ≡ cmp (unwrap_or (option_copied first.entry) Nothing) (unwrap_or (option_copied second.entry) Nothing) }
+    ensures { result
+        ≡ cmp (unwrap_or (option_copied first.entry) Nothing) (unwrap_or (option_copied second.entry) Nothing) }
 {
     match (first, second) {
         (Some(x), Some(y)) => cmp(x, y),

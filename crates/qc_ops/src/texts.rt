@@ -5,7 +5,8 @@ ghost use Rattle.qc_ops.specs.Texts.{joined, likeness};
 
 use crate::operands::text_of;
 use crate::pattern::like;
-use qc_data::{Chars, Datum, Halt, Memory};
+use qc_containers::{Chars, Memory};
+use qc_data::{Datum, Halt};
 use std::alloc::Global;
 
 pub(crate) fn likeness(pattern: &Chars, a: &Datum) -> Result<Datum, Halt>

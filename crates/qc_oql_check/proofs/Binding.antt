@@ -17,17 +17,25 @@ onto_last [] b s = refl
 onto_last (a ∷ row) b s = onto_last row b (a ∷ s)
 
 -- one source
-one_more : (source : NamedTyping) (sources : List NamedTyping) (row s : Types) (t : Ty) (name : List ℕ) → source_type source (onto row s) ≡ Ok t → source.name ≡ name
+one_more : (source : NamedTyping) (sources : List NamedTyping) (row s : Types) (t : Ty) (name : List ℕ)
+    → source_type source (onto row s) ≡ Ok t → source.name ≡ name
     → sources_bound (source ∷ sources) (onto row s) ≡ sources_bound sources (onto (row ++ (name, t) ∷ []) s)
 one_more source sources row s t name h n = rw (h, n, onto_last row (name, t) s) refl
 
 -- the source at a place, behind those that the row binds
-pub bound_more : (c : SchemaOf) (sources : List Named) (i : ℕ) (source : Named) (s row seen more : Types) (t : Ty) (name : List ℕ)
-    → i < length sources → source ≡ get_or sources i source → seen ≡ row → source_type (named_type c source) (onto seen s) ≡ Ok t → name ≡ (out-Named source).name → more ≡ row ++ (name, t) ∷ []
+pub bound_more : (c : SchemaOf) (sources : List Named) (i : ℕ) (source : Named) (s row seen more : Types) (t : Ty)
+    (name : List ℕ)
+    → i < length sources → source ≡ get_or sources i source → seen ≡ row
+    → source_type (named_type c source) (onto seen s) ≡ Ok t → name ≡ (out-Named source).name
+    → more ≡ row ++ (name, t) ∷ []
     → sources_bound (map (named_type c) sources) s ≡ sources_bound (map (named_type c) (drop i sources)) (onto row s)
-    → sources_bound (map (named_type c) sources) s ≡ sources_bound (map (named_type c) (drop (i + 1) sources)) (onto more s)
+    → sources_bound (map (named_type c) sources) s
+    ≡ sources_bound (map (named_type c) (drop (i + 1) sources)) (onto more s)
 bound_more c sources i source s row seen more t name lt is se h n m e =
-    let first : drop i sources ≡ source ∷ drop (suc i) sources = drop-cons sources i source lt ∙ ap (λ x. x ∷ drop (suc i) sources) (sym is) in
+    let first : drop i sources ≡ source ∷ drop (suc i) sources =
+    drop-cons sources i source lt ∙ ap (λ x. x ∷ drop (suc i) sources) (sym is) in
     let own : (named_type c source).name ≡ name = named_name c source ∙ sym n in
     let typed : source_type (named_type c source) (onto row s) ≡ Ok t = rw (← se) h in
-    e ∙ ap (λ l. sources_bound (map (named_type c) l) (onto row s)) first ∙ one_more (named_type c source) (map (named_type c) (drop (suc i) sources)) row s t name typed own ∙ rw (add-one, m) refl
+    e ∙ ap (λ l. sources_bound (map (named_type c) l) (onto row s)) first
+    ∙ one_more (named_type c source) (map (named_type c) (drop (suc i) sources)) row s t name typed own
+    ∙ rw (add-one, m) refl

@@ -2,7 +2,7 @@
 use Rattle.std.proofs.Common.{◌≡◌, ℕ, Bool, true, false, cond, List, [], ◌∷◌, Option, Some, None, IsTrue, refl}
 use Rattle.std.specs.Str.{bytes_eq}
 use Rattle.qc_data.specs.Outcome.{Mode}
-use Rattle.qc_data.specs.Pairs.{lookup}
+use Rattle.qc_containers.specs.Pairs.{lookup}
 use Rattle.qc_data.specs.declared.data.Datum.{Datum}
 use Rattle.qc_ops.specs.Operands.{found}
 use Rattle.qc_types.specs.declared.ty.Ty.{Ty}
@@ -54,7 +54,8 @@ Both c None (Some t) = ⊥
 Both c (Some v) None = ⊥
 Both c (Some v) (Some t) = HasType c v t
 
-both_cond : (c : Defs) (b : Bool) (v : Datum) (t : Ty) (x : Option Datum) (y : Option Ty) → HasType c v t → Both c x y → Both c (cond b (Some v) x) (cond b (Some t) y)
+both_cond : (c : Defs) (b : Bool) (v : Datum) (t : Ty) (x : Option Datum) (y : Option Ty) → HasType c v t → Both c x y
+    → Both c (cond b (Some v) x) (cond b (Some t) y)
 both_cond c true v t x y h k = h
 both_cond c false v t x y h k = k
 
@@ -62,16 +63,22 @@ looked_up : (c : Defs) (name : List ℕ) (s : Bindings) (e : Types) → Agree c 
 looked_up c name [] [] h = tt
 looked_up c name [] (q ∷ e) h = absurd h
 looked_up c name (p ∷ s) [] h = absurd h
-looked_up c name (p ∷ s) (q ∷ e) h = rw h.0.0 (both_cond c (bytes_eq q.0 name) p.1 q.1 (lookup name s) (lookup name e) h.0.1 (looked_up c name s e h.1))
+looked_up c name (p ∷ s) (q ∷ e) h =
+    rw h.0.0 (both_cond c (bytes_eq q.0 name) p.1 q.1 (lookup name s) (lookup name e) h.0.1 (looked_up c name s e h.1))
 
-found_checked : (c : Defs) (m : Mode) (at : ℕ) (x z : Option Datum) (y u : Option Ty) → Both c x y → ((t : Ty) → u ≡ Some t → (v : Datum) × (z ≡ Some v) × HasType c v t) → Checked m (HasType c) (or_fault at (or_else_some y u)) (found (or_else_some x z))
+found_checked : (c : Defs) (m : Mode) (at : ℕ) (x z : Option Datum) (y u : Option Ty) → Both c x y
+    → ((t : Ty) → u ≡ Some t → (v : Datum) × (z ≡ Some v) × HasType c v t)
+    → Checked m (HasType c) (or_fault at (or_else_some y u)) (found (or_else_some x z))
 found_checked c m at None z None None h k = tt
 found_checked c m at None z None (Some t) h k = let w = k t refl in rw w.1 w.2
 found_checked c m at None z (Some t) u h k = absurd h
 found_checked c m at (Some v) z None u h k = absurd h
 found_checked c m at (Some v) z (Some t) u h k = h
 
-pub sound_name : (schema : SchemaOf) (w : WorldOf) (m : Mode) → IsTrue (is_world schema.classes schema.globals w.datum) → (at : ℕ) (name : List ℕ) → Sound schema.classes m (type_of schema at name) (value_of w name)
+pub sound_name : (schema : SchemaOf) (w : WorldOf) (m : Mode) → IsTrue (is_world schema.classes schema.globals w.datum)
+    → (at : ℕ) (name : List ℕ) → Sound schema.classes m (type_of schema at name) (value_of w name)
 sound_name schema w m is at name s e h =
     let c = schema.classes in
-    found_checked c m at (lookup name s) (global name w.datum) (lookup name e) (lookup name schema.globals) (looked_up c name s e h) (λ t k. global_typed c schema.globals w.datum (world_typed c schema.globals w.datum is) name t k)
+    found_checked c m at (lookup name s) (global name w.datum) (lookup name e) (lookup name schema.globals)
+    (looked_up c name s e h) (λ t k. global_typed c schema.globals w.datum
+    (world_typed c schema.globals w.datum is) name t k)

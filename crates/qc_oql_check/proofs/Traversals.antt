@@ -12,15 +12,20 @@ checked_from f done (x ∷ xs) = and_check (f x) (λ y. checked_from f (done ++ 
 abbrev before : {B : Type 0} → List B → Result (List B) ℕ → Result (List B) ℕ
 before done r = and_check r (λ ys. Ok (done ++ ys))
 
-before_more : {B : Type 0} (done : List B) (y : B) (r : Result (List B) ℕ) → before (done ++ y ∷ []) r ≡ before done (and_check r (λ ys. Ok (y ∷ ys)))
+before_more : {B : Type 0} (done : List B) (y : B) (r : Result (List B) ℕ)
+    → before (done ++ y ∷ []) r ≡ before done (and_check r (λ ys. Ok (y ∷ ys)))
 before_more done y (Ok ys) = ap Ok (append_assoc done (y ∷ []) ys)
 before_more done y (Err at) = refl
 
-step : {A B : Type 0} (f : A → Result B ℕ) (done : List B) (r : Result B ℕ) (xs : List A) → ((d : List B) → checked_from f d xs ≡ before d (each_checked f xs)) → and_check r (λ y. checked_from f (done ++ y ∷ []) xs) ≡ before done (and_check r (λ y. and_check (each_checked f xs) (λ ys. Ok (y ∷ ys))))
+step : {A B : Type 0} (f : A → Result B ℕ) (done : List B) (r : Result B ℕ) (xs : List A)
+    → ((d : List B) → checked_from f d xs ≡ before d (each_checked f xs))
+    → and_check r (λ y. checked_from f (done ++ y ∷ []) xs)
+    ≡ before done (and_check r (λ y. and_check (each_checked f xs) (λ ys. Ok (y ∷ ys))))
 step f done (Ok y) xs h = h (done ++ y ∷ []) ∙ before_more done y (each_checked f xs)
 step f done (Err at) xs h = refl
 
-checked_from_is : {A B : Type 0} (f : A → Result B ℕ) (done : List B) (xs : List A) → checked_from f done xs ≡ before done (each_checked f xs)
+checked_from_is : {A B : Type 0} (f : A → Result B ℕ) (done : List B) (xs : List A)
+    → checked_from f done xs ≡ before done (each_checked f xs)
 checked_from_is f done [] = ap Ok (sym (append-nil done))
 checked_from_is f done (x ∷ xs) = step f done (f x) xs (λ d. checked_from_is f d xs)
 

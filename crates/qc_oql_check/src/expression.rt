@@ -19,7 +19,7 @@ use crate::operators::{branded_type, divided_type, field_type, like_type, one_ty
 use crate::parts::{bool_when, bound_by, coll_of, constant_type, is_atom, join_all, sides_of};
 use crate::record::{TypedField, row_of};
 use crate::scope::{Row, Scope, name_type};
-use qc_data::{Chars, List};
+use qc_containers::{Chars, List};
 use qc_oql_tree::{Binary, Branding, Division, Filter, Key, Named, Oql, Order, Select, Unary};
 use qc_types::{Classes, Schema, Ty, Width, copy_ty, join, subtype};
 use qc_typing::TypeFault;

@@ -1,12 +1,12 @@
 // The types that the operators of queries give.
 ghost use Rattle.std.specs.Prelude.{◌≡◌, Some, None, cond, IfOk};
-ghost use Rattle.qc_data.specs.Name.{is_name};
+ghost use Rattle.qc_containers.specs.Name.{is_name};
 ghost use Rattle.qc_ops.specs.declared.op.Unary.TheVariants as one;
 ghost use Rattle.qc_typing.specs.Tables.{unary_type};
 ghost use Rattle.qc_oql_tree.specs.OperatorTypes.{branded_type, divided_type, field_type, one_type, two_type};
 
 use crate::parts::{bound_by, sides_of};
-use qc_data::{Chars, Memory, Name, NameFault};
+use qc_containers::{Chars, Memory, Name, NameFault};
 use qc_ops::{Binary as OnTwo, Divisor, Unary as OnOne};
 use qc_oql_tree::{Binary, Branding, Division, Pairing, Unary, on_one, pairing_of};
 use qc_types::{Classes, Ty, join};

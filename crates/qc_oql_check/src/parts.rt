@@ -7,7 +7,7 @@ ghost use Rattle.qc_typing.specs.Rows.{is_atom};
 ghost use Rattle.qc_oql_tree.specs.PartTypes.{bound_by, join_all, sides_of};
 ghost use Rattle.qc_oql_tree.specs.OperatorTypes.{constant_type};
 
-use qc_data::{Boxed, Memory};
+use qc_containers::{Boxed, Memory};
 use qc_oql_tree::Constant;
 use qc_types::{Classes, Ty, join, subtype};
 use std::alloc::Global;

@@ -5,7 +5,7 @@ ghost use Rattle.qc_oql_tree.specs.PartTypes.{row_of};
 ghost use Rattle.qc_oql_check.specs.inner.Scopes.{field_types, with_field};
 
 use crate::operators::name_of;
-use qc_data::Chars;
+use qc_containers::Chars;
 use qc_types::{Row, Ty, copy_ty};
 use qc_typing::TypeFault;
 use std::alloc::Global;

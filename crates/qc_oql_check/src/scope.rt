@@ -1,12 +1,12 @@
 // Scopes: the types of what names stand for.
 ghost use Rattle.std.specs.Option.{option_copied};
 ghost use Rattle.std.specs.Prelude.{◌≡◌, []};
-ghost use Rattle.qc_data.specs.Pairs.{lookup};
+ghost use Rattle.qc_containers.specs.Pairs.{lookup};
 ghost use Rattle.qc_typing.specs.Checking.{Checks};
 ghost use Rattle.qc_oql_tree.specs.FormTypings.{type_of};
 ghost use Rattle.qc_oql_check.specs.inner.Scopes.{onto, types_of};
 
-use qc_data::{Chars, List};
+use qc_containers::{Chars, List};
 use qc_types::{Schema, Ty, copy_ty};
 use qc_typing::TypeFault;
 use std::alloc::Global;

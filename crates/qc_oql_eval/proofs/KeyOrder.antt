@@ -11,7 +11,8 @@ use Rattle.qc_oql_eval.specs.declared.ordering.Keyed.{Keyed}
 level : IsTotalOrder {K = List Datum} (λ xs ys. Equal)
 level = record { antisymm = λ x y. refl; trans = λ x y z p q. p; congr = λ x y z p. refl }
 
-directed_total : (ascending : Bool) → IsTotalOrder {K = List Datum} (λ xs ys. directed ascending (first_value xs) (first_value ys))
+directed_total : (ascending : Bool) → IsTotalOrder {K = List Datum}
+    (λ xs ys. directed ascending (first_value xs) (first_value ys))
 directed_total true = on_total first_value cmp_total
 directed_total false = on_total first_value (back_total cmp_total)
 

@@ -17,8 +17,11 @@ module _ (m : Mode) (w : WorldOf) where
   directions_is [] = refl
   directions_is (k ∷ keys) = let e = directions_is keys in rw (key_is m w k, e) refl
 
-  pub ordered_by_is : (keys : List Key) (s : Bindings) (rows : List Bindings) (ks : List KeyedRow) → each (keyed (map (key m w) keys) s) rows ≡ Value ks
-      → ordered_by (map (key m w) keys) s rows ≡ only_if (are_sortable (directions keys) (map (λ row. row.0) ks)) (Value (map (λ row. row.1) (sorted (directions keys) ks)))
+  pub ordered_by_is : (keys : List Key) (s : Bindings) (rows : List Bindings) (ks : List KeyedRow)
+      → each (keyed (map (key m w) keys) s) rows ≡ Value ks
+      → ordered_by (map (key m w) keys) s rows
+      ≡ only_if (are_sortable (directions keys) (map (λ row. row.0) ks))
+      (Value (map (λ row. row.1) (sorted (directions keys) ks)))
   unfolding ordered_by
   ordered_by_is keys s rows ks e = rw (e, directions_is keys) refl
 

@@ -13,6 +13,7 @@ pub record_onto_none : (fs : List (List ℕ × Datum)) → record_onto fs [] ≡
 record_onto_none [] = refl
 record_onto_none (f ∷ fs) = ap (put_new f.0 f.1) (record_onto_none fs)
 
-pub record_onto_last : (fs : List (List ℕ × Datum)) (f : List ℕ × Datum) (done : List (List ℕ × Datum)) → record_onto (fs ++ f ∷ []) done ≡ record_onto fs (put_new f.0 f.1 done)
+pub record_onto_last : (fs : List (List ℕ × Datum)) (f : List ℕ × Datum) (done : List (List ℕ × Datum))
+    → record_onto (fs ++ f ∷ []) done ≡ record_onto fs (put_new f.0 f.1 done)
 record_onto_last [] f done = refl
 record_onto_last (g ∷ fs) f done = ap (put_new g.0 g.1) (record_onto_last fs f done)

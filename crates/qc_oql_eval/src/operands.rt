@@ -4,7 +4,8 @@ ghost use Rattle.qc_data.specs.Outcome.{Gives, GivesRef};
 ghost use Rattle.qc_ops.specs.Operands.{as_bool};
 ghost use Rattle.qc_oql_tree.specs.OperatorMeanings.{name_of};
 
-use qc_data::{Chars, Datum, Halt, Items, Name, NameFault};
+use qc_containers::{Chars, Name, NameFault};
+use qc_data::{Datum, Halt, Items};
 use std::alloc::Global;
 
 // The truth value that the datum is.

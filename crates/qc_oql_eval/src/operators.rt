@@ -11,7 +11,8 @@ ghost use Rattle.qc_oql_tree.specs.inner.Pairings.{paired};
 ghost use Rattle.qc_oql_tree.specs.SelectMeaning.{distinct_if};
 
 use crate::operands::{items_of, name_of};
-use qc_data::{Chars, Datum, Halt, Items, copy};
+use qc_containers::Chars;
+use qc_data::{Datum, Halt, Items, copy};
 use qc_ops::{Binary as OnTwo, Divisor, Unary as OnOne, apply1, apply2, like};
 use qc_oql_tree::{Branding, Division, Pairing, Unary, branding, division, on_one};
 use qc_types::Classes;

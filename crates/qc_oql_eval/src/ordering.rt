@@ -5,7 +5,7 @@ ghost use Rattle.std.specs.Prelude.{◌≡◌, map, unwrap_or, IfOk};
 ghost use Rattle.qc_data.specs.Order.{cmp};
 ghost use Rattle.qc_data.specs.Outcome.{Value};
 ghost use Rattle.qc_data.specs.declared.data.Datum.TheVariants.{Unit as Nothing};
-ghost use Rattle.qc_ops.specs.Columns.{behind, GivesRefs};
+ghost use Rattle.qc_ops.specs.inner.Columns.{behind, GivesRefs};
 ghost use Rattle.qc_ops.specs.Operands.{only_if};
 ghost use Rattle.qc_ops.specs.Sorting.{directed, one_kind};
 ghost use Rattle.qc_oql_eval.specs.inner.SortKinds.{is_of};
@@ -14,7 +14,8 @@ ghost use Rattle.qc_oql_tree.specs.SelectMeaning.{are_sortable, is_ascending, ke
 ghost use Rattle.qc_oql_eval.specs.inner.Columns.{value_at};
 
 use crate::scope::Row;
-use qc_data::{Datum, Halt, List, Memory, cmp};
+use qc_containers::Memory;
+use qc_data::{Datum, Halt, Items, cmp};
 use qc_oql_tree::{Direction, Key};
 use std::alloc::Global;
 use std::cmp::Ordering;
@@ -23,7 +24,7 @@ use std::cmp::Ordering;
 #[derive(Drop)]
 pub(crate) struct Keyed<'a> {
     // The values.
-    pub(crate) keys: List<Datum>,
+    pub(crate) keys: Items,
     // The row.
     pub(crate) row: &'a Row,
 }
@@ -107,7 +108,7 @@ fn sorted<'a>(keys: &[Key], rows: Vec<Keyed<'a>>) -> Result<Vec<Keyed<'a>>, Memo
 
 // How the values of one row's keys stand to another's.
 #[tactic(auto, using(crate::proofs::Columns::keys_from_start))]
-fn keys_cmp(keys: &[Key], first: &List<Datum>, second: &List<Datum>) -> Ordering
+fn keys_cmp(keys: &[Key], first: &Items, second: &Items) -> Ordering
     ensures { result ≡ keys_cmp (directions keys.now) first.now second.now }
 {
     for (at, key) in keys.iter().enumerate() {

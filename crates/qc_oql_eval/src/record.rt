@@ -3,7 +3,8 @@ ghost use Rattle.std.specs.Prelude.{◌≡◌, IfOk, OnOk};
 ghost use Rattle.qc_ops.specs.Records.{put_new};
 ghost use Rattle.qc_oql_tree.specs.FormMeanings.{record_of};
 
-use qc_data::{Datum, Fields, Memory, Name};
+use qc_containers::{Memory, Name};
+use qc_data::{Datum, Fields};
 use std::alloc::Global;
 
 // The record of the pairs, of equal names the last.

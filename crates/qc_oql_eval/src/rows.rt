@@ -1,10 +1,11 @@
 // Rows of a select.
 ghost use Rattle.std.specs.Prelude.{◌≡◌, [], ◌∷◌, ◌++◌, IfOk, OnOk};
-ghost use Rattle.qc_ops.specs.Columns.{behind};
+ghost use Rattle.qc_ops.specs.inner.Columns.{behind};
 ghost use Rattle.qc_oql_tree.specs.SelectMeaning.{rows_with};
 
 use crate::scope::{Row, Rows};
-use qc_data::{Chars, Datum, Memory, copy};
+use qc_containers::{Chars, Memory};
+use qc_data::{Datum, copy};
 use std::alloc::Global;
 
 // The one row that binds nothing.

@@ -2,12 +2,13 @@
 ghost use Rattle.std.specs.Option.{option_copied};
 ghost use Rattle.std.specs.Prelude.{◌≡◌};
 ghost use Rattle.qc_data.specs.Outcome.{Gives};
-ghost use Rattle.qc_data.specs.Pairs.{lookup};
+ghost use Rattle.qc_containers.specs.Pairs.{lookup};
 ghost use Rattle.qc_ops.specs.Operands.{found};
 ghost use Rattle.qc_oql_eval.specs.inner.Scopes.{bindings_of};
 ghost use Rattle.qc_oql_tree.specs.Bindings.{value_of};
 
-use qc_data::{Chars, Datum, Halt, List, copy};
+use qc_containers::{Chars, List};
+use qc_data::{Datum, Halt, copy};
 use qc_types::World;
 use std::alloc::Global;
 

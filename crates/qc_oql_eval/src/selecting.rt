@@ -1,7 +1,7 @@
 // The outcome of selects in 64 bits: rows, those that are kept, their order, and their values.
 ghost use Rattle.std.specs.Prelude.{◌++◌, map, option_map};
 ghost use Rattle.qc_data.specs.Outcome.{bits64, each, gather, Gives};
-ghost use Rattle.qc_ops.specs.Columns.{behind, GivesRefs};
+ghost use Rattle.qc_ops.specs.inner.Columns.{behind, GivesRefs};
 ghost use Rattle.qc_oql_eval.specs.inner.Scopes.{bindings_of};
 ghost use Rattle.qc_oql_eval.specs.inner.Selected.{by_parts};
 ghost use Rattle.qc_oql_tree.specs.Meaning as meaning;

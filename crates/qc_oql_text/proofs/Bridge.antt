@@ -32,10 +32,12 @@ module _ (ts : List Lexeme) where
   runs [] s = refl
   runs (e ∷ es) s = runs es (act ts e.action e.at s)
 
-  by_walk : (q : queries.Query) (s : Values) → walks.Walks grammar K (act ts) 0 (Rule 0 ∷ []) [] (length ts) s → actions.query s ≡ q → Means ts q
+  by_walk : (q : queries.Query) (s : Values) → walks.Walks grammar K (act ts) 0 (Rule 0 ∷ []) [] (length ts) s
+      → actions.query s ≡ q → Means ts q
   by_walk q s w e =
       let end : drop (length ts) K ≡ [] = subst (λ z. drop z K ≡ []) (map_length kind ts) (walks.drop_end K) in
-      let r = walks.flat grammar K (act ts) 0 (length ts) (Rule 0 ∷ []) [] [] s [] w (subst (λ z. Derives grammar (length ts) [] z []) (sym end) nothing) in
+      let r = walks.flat grammar K (act ts) 0 (length ts) (Rule 0 ∷ []) [] [] s [] w
+      (subst (λ z. Derives grammar (length ts) [] z []) (sym end) nothing) in
       record { events = r.0; derives = r.1; same = ap actions.query (sym (runs r.0 []) ∙ r.2) ∙ e }
 
   pub complete : (q : queries.Query) → rel.Query ts q → Means ts q
@@ -50,9 +52,11 @@ module _ (ts : List Lexeme) where
 
   pub sound : (q : queries.Query) → Means ts q → rel.Query ts q
   sound q d =
-      let p = walks.sound K (act ts) (words ts) grammar (closed ts) 0 (Rule 0 ∷ []) K d.events [] (λ j t. Leaves j t) d.derives (omega arith) refl (λ w. leaves w refl) in
+      let p = walks.sound K (act ts) (words ts) grammar (closed ts) 0 (Rule 0 ∷ []) K d.events []
+      (λ j t. Leaves j t) d.derives (omega arith) refl (λ w. leaves w refl) in
       let l = subst (λ z. Leaves z (walks.run (act ts) d.events [])) (map_length kind ts) p in
-      subst (λ z. rel.Query ts z) (ap actions.query (runs d.events []) ∙ d.same) (spelled (walks.run (act ts) d.events []) l)
+      subst (λ z. rel.Query ts z) (ap actions.query (runs d.events []) ∙ d.same)
+      (spelled (walks.run (act ts) d.events []) l)
 
 -- the same lists parse to the same queries, or have the same faults
 pub parses : (ts : List Lexeme) (r : Result queries.Query SyntaxFault) → Parses Means ts r → Parses rel.Query ts r

@@ -1,5 +1,6 @@
 -- Each alternative of the table is a case of the grammar.
-use Rattle.std.proofs.Common.{◌≡◌, ◌||◌, ℕ, suc, Bool, true, false, ℤ, neg_ℤ, List, [], ◌∷◌, ◌++◌, map, refl, sym, ap, ◌∙◌, subst, eqb, slice_get, Some, None}
+use Rattle.std.proofs.Common.{◌≡◌, ◌||◌, ℕ, suc, Bool, true, false, ℤ, neg_ℤ, List, [], ◌∷◌, ◌++◌, map, refl, sym, ap}
+use Rattle.std.proofs.Common.{◌∙◌, subst, eqb, slice_get, Some, None}
 use Rattle.std.proofs.lemmas.Bool.{eq-eqb}
 use Rattle.std.proofs.Math.Bool.{or-true}
 use Rattle.qc_grammar.specs.declared.symbol.Symbol.{Symbol}
@@ -13,8 +14,10 @@ use Rattle.qc_oql_tree.specs.declared.tree.Oql.{Oql}
 use Rattle.qc_oql_tree.specs.declared.tree.Oql.TheVariants as tree
 use Rattle.qc_oql_tree.specs.declared.tree.Quantifier.TheVariants as quantifier
 use Rattle.qc_oql_tree.specs.Grammar as rel
-use Rattle.qc_oql_tree.specs.Kinds.{NAME, DISTINCT, IF, FOR, EXISTS, TRUE, FALSE, NIL, CAST, BRAND, NOT, MINUS, TEXT, OPEN, CLOSE, COLON, STRUCT, BAG, MATCH}
-use Rattle.qc_oql_tree.specs.Kinds.{WHOLES, CONSTANTS, SETS, SUMS, DIVISIONS, TESTS, UNARIES, BINARIES, BRANDINGS, LABELS}
+use Rattle.qc_oql_tree.specs.Kinds.{NAME, DISTINCT, IF, FOR, EXISTS, TRUE, FALSE, NIL, CAST, BRAND, NOT, MINUS, TEXT}
+use Rattle.qc_oql_tree.specs.Kinds.{OPEN, CLOSE, COLON, STRUCT, BAG, MATCH}
+use Rattle.qc_oql_tree.specs.Kinds.{WHOLES, CONSTANTS, SETS, SUMS, DIVISIONS, TESTS, UNARIES, BINARIES, BRANDINGS}
+use Rattle.qc_oql_tree.specs.Kinds.{LABELS}
 use Rattle.qc_oql_tree.specs.Lexemes.{kind, whole, content, lexeme_at}
 use Rattle.qc_oql_tree.specs.Operators.{constant_of, unary_of, binary_of, division_of, branding_of}
 use Rattle.qc_oql_tree.specs.Trees as trees
@@ -28,10 +31,12 @@ use Rattle.qc_oql_text.proofs.Words as words
 use Rattle.qc_oql_text.proofs.Words.{puts, grows, PLAIN_UNARIES}
 
 -- one more entry
-with_entry : (n : Named) (s : Values) (xs : List Named) (r : Values) → s ≡ value.Entries xs ∷ r → value.Entries (the_entries s ++ n ∷ []) ∷ rest s ≡ value.Entries (xs ++ n ∷ []) ∷ r
+with_entry : (n : Named) (s : Values) (xs : List Named) (r : Values) → s ≡ value.Entries xs ∷ r
+    → value.Entries (the_entries s ++ n ∷ []) ∷ rest s ≡ value.Entries (xs ++ n ∷ []) ∷ r
 with_entry n s xs r e = ap (λ z. value.Entries (the_entries z ++ n ∷ []) ∷ rest z) e
 
-with_member : (x : Oql) (s : Values) (xs : List Oql) (r : Values) → s ≡ value.Members xs ∷ r → value.Members (the_members s ++ x ∷ []) ∷ rest s ≡ value.Members (xs ++ x ∷ []) ∷ r
+with_member : (x : Oql) (s : Values) (xs : List Oql) (r : Values) → s ≡ value.Members xs ∷ r
+    → value.Members (the_members s ++ x ∷ []) ∷ rest s ≡ value.Members (xs ++ x ∷ []) ∷ r
 with_member x s xs r e = ap (λ z. value.Members (the_members z ++ x ∷ []) ∷ rest z) e
 
 module _ (ts : List Lexeme) where
@@ -51,15 +56,18 @@ module _ (ts : List Lexeme) where
       cc
 
   -- a part of a class of tokens
-  class_part : (n : ℕ) (all ks : List ℕ) → of (words.words ts) n ≡ words.class ts all → ((k : ℕ) → among k ks ≡ true → among k all ≡ true) → Closes K (act ts) (words.words ts) n (map words.single ks)
+  class_part : (n : ℕ) (all ks : List ℕ) → of (words.words ts) n ≡ words.class ts all
+      → ((k : ℕ) → among k ks ≡ true → among k all ≡ true) → Closes K (act ts) (words.words ts) n (map words.single ks)
   class_part n all [] e f = tt
   class_part n all (k ∷ ks) e f = (
-    (λ i s t. subst (λ R. (w : R.Word i s) × (R.end i s w ≡ suc i) × (R.stack i s w ≡ s)) (sym e) ((k, t, f k (rw (eq-eqb k k refl) refl)), refl, refl)),
+    (λ i s t. subst (λ R. (w : R.Word i s) × (R.end i s w ≡ suc i) × (R.stack i s w ≡ s)) (sym e)
+        ((k, t, f k (rw (eq-eqb k k refl) refl)), refl, refl)),
     class_part n all ks e (λ j m. f j (rw m (or-true (eqb j k)))),
   )
 
   -- a class of tokens
-  closes_class : (n : ℕ) (ks : List ℕ) → of (words.words ts) n ≡ words.class ts ks → Closes K (act ts) (words.words ts) n (map words.single ks)
+  closes_class : (n : ℕ) (ks : List ℕ) → of (words.words ts) n ≡ words.class ts ks
+      → Closes K (act ts) (words.words ts) n (map words.single ks)
   closes_class n ks e = class_part n ks ks e (λ k m. m)
 
   -- the kind of a class
@@ -71,42 +79,61 @@ module _ (ts : List Lexeme) where
 
   -- among all functions of one operand
   plain_unary : (i : ℕ) → rel.Among ts i PLAIN_UNARIES → rel.Among ts i UNARIES
-  plain_unary i c = (c.0, c.1, ap (λ z. eqb c.0 EXISTS || (eqb c.0 DISTINCT || z)) c.2 ∙ ap (λ z. eqb c.0 EXISTS || z) (or-true (eqb c.0 DISTINCT)) ∙ or-true (eqb c.0 EXISTS))
+  plain_unary i c = (
+    c.0,
+    c.1,
+    ap (λ z. eqb c.0 EXISTS || (eqb c.0 DISTINCT || z)) c.2
+        ∙ ap (λ z. eqb c.0 EXISTS || z) (or-true (eqb c.0 DISTINCT)) ∙ or-true (eqb c.0 EXISTS),
+  )
 
   -- a tail behind what it goes on
-  joined : (G H : ℕ → ℕ → Oql → Type 0) (i m : ℕ) (x : Oql) (s : Values) → G i m x → (w : (grows value.Tree G H).Word m (value.Tree x ∷ s))
-      → (v : (puts value.Tree H).Word i s) × ((puts value.Tree H).end i s v ≡ w.0) × ((puts value.Tree H).stack i s v ≡ w.1)
+  joined : (G H : ℕ → ℕ → Oql → Type 0) (i m : ℕ) (x : Oql) (s : Values) → G i m x
+      → (w : (grows value.Tree G H).Word m (value.Tree x ∷ s))
+      → (v : (puts value.Tree H).Word i s) × ((puts value.Tree H).end i s v ≡ w.0)
+      × ((puts value.Tree H).stack i s v ≡ w.1)
   joined G H i m x s g w = let r = w.2 i x s g refl in ((w.0, r.0, r.1), refl, sym r.2)
 
   -- the same where it does not begin with `distinct`
-  joined_apart : (G H : ℕ → ℕ → Oql → Type 0) (i m : ℕ) (x : Oql) (s : Values) → (rel.Is ts i DISTINCT → ⊥) → G i m x → (w : (grows value.Tree G H).Word m (value.Tree x ∷ s))
-      → (v : (puts value.Tree (words.Apart ts H)).Word i s) × ((puts value.Tree (words.Apart ts H)).end i s v ≡ w.0) × ((puts value.Tree (words.Apart ts H)).stack i s v ≡ w.1)
+  joined_apart : (G H : ℕ → ℕ → Oql → Type 0) (i m : ℕ) (x : Oql) (s : Values) → (rel.Is ts i DISTINCT → ⊥) → G i m x
+      → (w : (grows value.Tree G H).Word m (value.Tree x ∷ s))
+      → (v : (puts value.Tree (words.Apart ts H)).Word i s) × ((puts value.Tree (words.Apart ts H)).end i s v ≡ w.0)
+      × ((puts value.Tree (words.Apart ts H)).stack i s v ≡ w.1)
   joined_apart G H i m x s a g w = let r = w.2 i x s g refl in ((w.0, r.0, (a, r.1)), refl, sym r.2)
 
   -- behind `exists` a binding
-  quantifies : (i h : ℕ) (s r : Values) (w : (j : ℕ) × (x : Oql) × rel.Binding ts i j (trees.named i (rel.text_at ts i) x)) → rel.Is ts w.0 COLON → (v : (j : ℕ) × (x : Oql) × rel.Q ts (suc w.0) j x)
+  quantifies : (i h : ℕ) (s r : Values) (w : (j : ℕ) × (x : Oql)
+      × rel.Binding ts i j (trees.named i (rel.text_at ts i) x)) → rel.Is ts w.0 COLON
+      → (v : (j : ℕ) × (x : Oql) × rel.Q ts (suc w.0) j x)
       → i ≡ suc h → rel.Is ts h EXISTS → s ≡ value.Mark (record { at = h; kind = rel.kind_at ts h }) ∷ r
-      → (x : Oql) × rel.Q ts h v.0 x × (actions.quantified quantifier.Exists (value.Tree v.1 ∷ value.Tree w.1 ∷ value.Name (record { at = i; text = rel.text_at ts i }) ∷ s) ≡ value.Tree x ∷ r)
+      → (x : Oql) × rel.Q ts h v.0 x × (actions.quantified quantifier.Exists
+      (value.Tree v.1 ∷ value.Tree w.1 ∷ value.Name (record { at = i; text = rel.text_at ts i }) ∷ s)
+      ≡ value.Tree x ∷ r)
   quantifies i h s r w e v p f q =
       let b = subst (λ z. rel.Binding ts z w.0 (trees.named i (rel.text_at ts i) w.1)) p w.2 in (
         tree.Quantified h quantifier.Exists (trees.named i (rel.text_at ts i) w.1) v.1,
         rel.exists f b e v.2,
-        ap (λ z. actions.quantified quantifier.Exists (value.Tree v.1 ∷ value.Tree w.1 ∷ value.Name (record { at = i; text = rel.text_at ts i }) ∷ z)) q,
+        ap (λ z. actions.quantified quantifier.Exists
+            (value.Tree v.1 ∷ value.Tree w.1 ∷ value.Name (record { at = i; text = rel.text_at ts i }) ∷ z)) q,
       )
 
   -- behind `exists` a call, and what goes on with it
-  calls : (i h : ℕ) (s r : Values) → rel.Is ts i OPEN → (w : (j : ℕ) × (x : Oql) × rel.Expr ts (suc i) j x) → rel.Is ts w.0 CLOSE
+  calls : (i h : ℕ) (s r : Values) → rel.Is ts i OPEN → (w : (j : ℕ) × (x : Oql) × rel.Expr ts (suc i) j x)
+      → rel.Is ts w.0 CLOSE
       → (v1 : (words.tail ts (rel.Path ts) (rel.Path ts)).Word (suc w.0) (actions.unary (value.Tree w.1 ∷ s)))
-      → (v2 : (words.tail ts (rel.Product ts) (rel.Product ts)).Word v1.0 v1.1) → (v3 : (words.tail ts (rel.Sum ts) (rel.Sum ts)).Word v2.0 v2.1)
-      → (v4 : (words.tail ts (rel.Sets ts) (rel.Sets ts)).Word v3.0 v3.1) → (v5 : (words.tail ts (rel.Sets ts) (rel.Rel ts)).Word v4.0 v4.1)
-      → (v6 : (words.tail ts (rel.And ts) (rel.And ts)).Word v5.0 v5.1) → (v7 : (words.tail ts (rel.Or ts) (rel.Or ts)).Word v6.0 v6.1)
+      → (v2 : (words.tail ts (rel.Product ts) (rel.Product ts)).Word v1.0 v1.1)
+      → (v3 : (words.tail ts (rel.Sum ts) (rel.Sum ts)).Word v2.0 v2.1)
+      → (v4 : (words.tail ts (rel.Sets ts) (rel.Sets ts)).Word v3.0 v3.1)
+      → (v5 : (words.tail ts (rel.Sets ts) (rel.Rel ts)).Word v4.0 v4.1)
+      → (v6 : (words.tail ts (rel.And ts) (rel.And ts)).Word v5.0 v5.1)
+      → (v7 : (words.tail ts (rel.Or ts) (rel.Or ts)).Word v6.0 v6.1)
       → i ≡ suc h → rel.Is ts h EXISTS → s ≡ value.Mark (record { at = h; kind = rel.kind_at ts h }) ∷ r
       → (x : Oql) × rel.Q ts h v7.0 x × (v7.1 ≡ value.Tree x ∷ r)
   calls i h s r e w c v1 v2 v3 v4 v5 v6 v7 p f q =
       let y = tree.Unary h (unary_of (rel.kind_at ts h)) w.1 in
       let o = subst (λ z. rel.Is ts z OPEN) p e in
       let a = subst (λ z. rel.Expr ts (suc z) w.0 w.1) p w.2 in
-      let q1 = v1.2 h y r (rel.one_atom (rel.call (EXISTS, f, refl) o a c)) (ap (λ z. actions.unary (value.Tree w.1 ∷ z)) q) in
+      let q1 = v1.2 h y r (rel.one_atom (rel.call (EXISTS, f, refl) o a c))
+      (ap (λ z. actions.unary (value.Tree w.1 ∷ z)) q) in
       let q2 = v2.2 h q1.0 r (rel.one_factor (rel.unsigned q1.1)) q1.2 in
       let q3 = v3.2 h q2.0 r (rel.one_summand q2.1) q2.2 in
       let q4 = v4.2 h q3.0 r (rel.one_set q3.1) q3.2 in
@@ -118,14 +145,37 @@ module _ (ts : List Lexeme) where
   of_query : Of 0
   unfolding act actions.act_list actions.act_tree grammar
   of_query = (
-    (λ i s w1 w2 w3. let d = w1.2 i [] s rel.no_define refl in (record { j = w1.0; k = w2.0; end = w3.0; defines = d.0; body = w2.1; defined = d.1; spelled = w2.2; ended = w3.1 }, refl, ap (λ z. value.Tree w2.1 ∷ z) (sym d.2))),
+    (λ i s w1 w2 w3. let d = w1.2 i [] s rel.no_define refl in (
+      record {
+        j = w1.0;
+        k = w2.0;
+        end = w3.0;
+        defines = d.0;
+        body = w2.1;
+        defined = d.1;
+        spelled = w2.2;
+        ended = w3.1;
+      },
+      refl,
+      ap (λ z. value.Tree w2.1 ∷ z) (sym d.2),
+    )),
     tt,
   )
 
   of_defines : Of 1
   unfolding act actions.act_list actions.act_tree grammar
   of_defines = (
-    (λ i s e1 e2 e3 w e4 v. ((v.0, v.1, λ h xs r d q. v.2 h (xs ++ trees.named (suc i) (rel.text_at ts (suc i)) w.1 ∷ []) r (rel.more_defines d e1 e2 e3 w.2 e4) (with_entry (trees.named (suc i) (rel.text_at ts (suc i)) w.1) s xs r q)), refl, refl)),
+    (λ i s e1 e2 e3 w e4 v. (
+      (
+        v.0,
+        v.1,
+        λ h xs r d q. v.2 h
+            (xs ++ trees.named (suc i) (rel.text_at ts (suc i)) w.1 ∷ []) r (rel.more_defines d e1 e2 e3 w.2 e4)
+            (with_entry (trees.named (suc i) (rel.text_at ts (suc i)) w.1) s xs r q),
+      ),
+      refl,
+      refl,
+    )),
     (
       (λ i s. ((i, s, λ h x r d q. (x, d, q)), refl, refl)),
       tt,
@@ -155,9 +205,25 @@ module _ (ts : List Lexeme) where
   of_selection : Of 4
   unfolding act actions.act_list actions.act_tree grammar
   of_selection = (
-    (λ i s e w v. ((v.end, trees.select true w.1 v.bindings v.filter v.order, rel.selection (rel.distinct e w.2) v.sources.from v.sources.bindings v.sources.filtered v.sources.ordered), refl, refl)),
+    (λ i s e w v. (
+      (
+        v.end,
+        trees.select true w.1 v.bindings v.filter v.order,
+        rel.selection (rel.distinct e w.2) v.sources.from v.sources.bindings v.sources.filtered v.sources.ordered,
+      ),
+      refl,
+      refl,
+    )),
     (
-      (λ i s w v. ((v.end, trees.select false w.1 v.bindings v.filter v.order, rel.selection (rel.all w.2.0 w.2.1) v.sources.from v.sources.bindings v.sources.filtered v.sources.ordered), refl, refl)),
+      (λ i s w v. (
+        (
+          v.end,
+          trees.select false w.1 v.bindings v.filter v.order,
+          rel.selection (rel.all w.2.0 w.2.1) v.sources.from v.sources.bindings v.sources.filtered v.sources.ordered,
+        ),
+        refl,
+        refl,
+      )),
       tt,
     ),
   )
@@ -167,7 +233,13 @@ module _ (ts : List Lexeme) where
   of_sources = (
     (λ i s e w v f o.
         let b = v.2 (suc i) (trees.named (suc i) (rel.text_at ts (suc i)) w.1 ∷ []) s (rel.one_binding w.2) refl in (
-          record { end = o.0; bindings = b.0; filter = f.1; order = o.1; sources = record { k = v.0; l = f.0; from = e; bindings = b.1; filtered = f.2; ordered = o.2 } },
+          record {
+            end = o.0;
+            bindings = b.0;
+            filter = f.1;
+            order = o.1;
+            sources = record { k = v.0; l = f.0; from = e; bindings = b.1; filtered = f.2; ordered = o.2 };
+          },
           refl,
           ap (λ z. value.Ordered o.1 ∷ value.Filtered f.1 ∷ z) (sym b.2),
         )),
@@ -177,7 +249,16 @@ module _ (ts : List Lexeme) where
   of_bindings : Of 6
   unfolding act actions.act_list actions.act_tree grammar
   of_bindings = (
-    (λ i s e w v. ((v.0, v.1, λ h xs r d q. v.2 h (xs ++ trees.named (suc i) (rel.text_at ts (suc i)) w.1 ∷ []) r (rel.more_bindings d e w.2) (with_entry (trees.named (suc i) (rel.text_at ts (suc i)) w.1) s xs r q)), refl, refl)),
+    (λ i s e w v. (
+      (
+        v.0,
+        v.1,
+        λ h xs r d q. v.2 h (xs ++ trees.named (suc i) (rel.text_at ts (suc i)) w.1 ∷ []) r
+            (rel.more_bindings d e w.2) (with_entry (trees.named (suc i) (rel.text_at ts (suc i)) w.1) s xs r q),
+      ),
+      refl,
+      refl,
+    )),
     (
       (λ i s. ((i, s, λ h x r d q. (x, d, q)), refl, refl)),
       tt,
@@ -205,7 +286,8 @@ module _ (ts : List Lexeme) where
   unfolding act actions.act_list actions.act_tree grammar
   of_order = (
     (λ i s e1 e2 w v.
-        let g = v.2 (suc (suc i)) (w.1 ∷ []) (value.Mark (record { at = i; kind = rel.kind_at ts i }) ∷ s) (rel.one_key w.2) refl in
+        let g = v.2 (suc (suc i)) (w.1 ∷ []) (value.Mark (record { at = i; kind = rel.kind_at ts i }) ∷ s)
+        (rel.one_key w.2) refl in
         ((v.0, Some (trees.order i g.0), rel.ordered e1 e2 g.1), refl, ap (λ z. actions.order z) (sym g.2))),
     (
       (λ i s. ((i, None, rel.unordered), refl, refl)),
@@ -216,7 +298,16 @@ module _ (ts : List Lexeme) where
   of_keys : Of 10
   unfolding act actions.act_list actions.act_tree grammar
   of_keys = (
-    (λ i s e w v. ((v.0, v.1, λ h xs r d q. v.2 h (xs ++ w.1 ∷ []) r (rel.more_keys d e w.2) (ap (λ z. value.Keys (the_keys z ++ w.1 ∷ []) ∷ rest z) q)), refl, refl)),
+    (λ i s e w v. (
+      (
+        v.0,
+        v.1,
+        λ h xs r d q. v.2 h (xs ++ w.1 ∷ []) r (rel.more_keys d e w.2)
+            (ap (λ z. value.Keys (the_keys z ++ w.1 ∷ []) ∷ rest z) q),
+      ),
+      refl,
+      refl,
+    )),
     (
       (λ i s. ((i, s, λ h x r d q. (x, d, q)), refl, refl)),
       tt,
@@ -266,9 +357,26 @@ module _ (ts : List Lexeme) where
   of_q_head : Of 15
   unfolding act actions.act_list actions.act_tree grammar
   of_q_head = (
-    (λ i s e1 w1 e2 w2 e3 w3. ((w3.0, tree.If i w1.1 w2.1 w3.1, (two i IF DISTINCT refl e1, rel.if_else e1 w1.2 e2 w2.2 e3 w3.2)), refl, refl)),
+    (λ i s e1 w1 e2 w2 e3 w3. (
+      (
+        w3.0,
+        tree.If i w1.1 w2.1 w3.1,
+        (two i IF DISTINCT refl e1, rel.if_else e1 w1.2 e2 w2.2 e3 w3.2),
+      ),
+      refl,
+      refl,
+    )),
     (
-      (λ i s e1 e2 w e3 v. ((v.0, tree.Quantified i quantifier.ForAll (trees.named (suc (suc i)) (rel.text_at ts (suc (suc i))) w.1) v.1, (two i FOR DISTINCT refl e1, rel.for_all e1 e2 w.2 e3 v.2)), refl, refl)),
+      (λ i s e1 e2 w e3 v. (
+        (
+          v.0,
+          tree.Quantified i quantifier.ForAll
+              (trees.named (suc (suc i)) (rel.text_at ts (suc (suc i))) w.1) v.1,
+          (two i FOR DISTINCT refl e1, rel.for_all e1 e2 w.2 e3 v.2),
+        ),
+        refl,
+        refl,
+      )),
       (
         (λ i s e w. let g = w.2 i s refl e refl in ((w.0, g.0, (two i EXISTS DISTINCT refl e, g.1)), refl, sym g.2)),
         tt,
@@ -279,9 +387,19 @@ module _ (ts : List Lexeme) where
   of_exists_rest : Of 16
   unfolding act actions.act_list actions.act_tree grammar
   of_exists_rest = (
-    (λ i s w e v. ((v.0, actions.quantified quantifier.Exists (value.Tree v.1 ∷ value.Tree w.1 ∷ value.Name (record { at = i; text = rel.text_at ts i }) ∷ s), λ h r p f q. quantifies i h s r w e v p f q), refl, refl)),
+    (λ i s w e v. (
+      (
+        v.0,
+        actions.quantified quantifier.Exists
+            (value.Tree v.1 ∷ value.Tree w.1 ∷ value.Name (record { at = i; text = rel.text_at ts i }) ∷ s),
+        λ h r p f q. quantifies i h s r w e v p f q,
+      ),
+      refl,
+      refl,
+    )),
     (
-      (λ i s e w c v1 v2 v3 v4 v5 v6 v7. ((v7.0, v7.1, λ h r p f q. calls i h s r e w c v1 v2 v3 v4 v5 v6 v7 p f q), refl, refl)),
+      (λ i s e w c v1 v2 v3 v4 v5 v6 v7.
+          ((v7.0, v7.1, λ h r p f q. calls i h s r e w c v1 v2 v3 v4 v5 v6 v7 p f q), refl, refl)),
       tt,
     ),
   )
@@ -372,7 +490,11 @@ module _ (ts : List Lexeme) where
   of_not_but_both : Of 28
   unfolding act actions.act_list actions.act_tree grammar
   of_not_but_both = (
-    (λ i s e w. ((w.0, tree.Unary i (unary_of (rel.kind_at ts i)) w.1, (two i NOT DISTINCT refl e, rel.not e w.2)), refl, refl)),
+    (λ i s e w. (
+      (w.0, tree.Unary i (unary_of (rel.kind_at ts i)) w.1, (two i NOT DISTINCT refl e, rel.not e w.2)),
+      refl,
+      refl,
+    )),
     (
       (λ i s w. ((w.0, w.1, (w.2.0, rel.test w.2.1)), refl, refl)),
       tt,
@@ -410,7 +532,11 @@ module _ (ts : List Lexeme) where
   of_neg_but_both : Of 33
   unfolding act actions.act_list actions.act_tree grammar
   of_neg_but_both = (
-    (λ i s e w. ((w.0, tree.Unary i (unary_of (rel.kind_at ts i)) w.1, (two i MINUS DISTINCT refl e, rel.neg e w.2)), refl, refl)),
+    (λ i s e w. (
+      (w.0, tree.Unary i (unary_of (rel.kind_at ts i)) w.1, (two i MINUS DISTINCT refl e, rel.neg e w.2)),
+      refl,
+      refl,
+    )),
     (
       (λ i s w. ((w.0, w.1, (w.2.0, rel.unsigned w.2.1)), refl, refl)),
       tt,
@@ -489,7 +615,16 @@ module _ (ts : List Lexeme) where
   of_or_tail : Of 43
   unfolding act actions.act_list actions.act_tree grammar
   of_or_tail = (
-    (λ i s e w v. ((v.0, v.1, λ h x r f q. v.2 h (tree.Binary i (binary_of (rel.kind_at ts i)) x w.1) r (rel.or f e w.2) (ap (λ z. value.Tree (tree.Binary i (binary_of (rel.kind_at ts i)) (the_tree z) w.1) ∷ rest z) q)), refl, refl)),
+    (λ i s e w v. (
+      (
+        v.0,
+        v.1,
+        λ h x r f q. v.2 h (tree.Binary i (binary_of (rel.kind_at ts i)) x w.1) r (rel.or f e w.2)
+            (ap (λ z. value.Tree (tree.Binary i (binary_of (rel.kind_at ts i)) (the_tree z) w.1) ∷ rest z) q),
+      ),
+      refl,
+      refl,
+    )),
     (
       (λ i s. ((i, s, λ h x r d q. (x, d, q)), refl, refl)),
       tt,
@@ -499,7 +634,17 @@ module _ (ts : List Lexeme) where
   of_and_tail : Of 44
   unfolding act actions.act_list actions.act_tree grammar
   of_and_tail = (
-    (λ i s e w v. ((v.0, v.1, λ h x r f q. v.2 h (tree.Binary i (binary_of (rel.kind_at ts i)) x w.1) r (rel.and f e w.2) (ap (λ z. value.Tree (tree.Binary i (binary_of (rel.kind_at ts i)) (the_tree z) w.1) ∷ rest z) q)), refl, refl)),
+    (λ i s e w v. (
+      (
+        v.0,
+        v.1,
+        λ h x r f q. v.2 h (tree.Binary i (binary_of (rel.kind_at ts i)) x w.1) r
+            (rel.and f e w.2) (ap (λ z. value.Tree (tree.Binary i (binary_of (rel.kind_at ts i)) (the_tree z) w.1)
+            ∷ rest z) q),
+      ),
+      refl,
+      refl,
+    )),
     (
       (λ i s. ((i, s, λ h x r d q. (x, d, q)), refl, refl)),
       tt,
@@ -509,9 +654,35 @@ module _ (ts : List Lexeme) where
   of_rel_tail : Of 45
   unfolding act actions.act_list actions.act_tree grammar
   of_rel_tail = (
-    (λ i s e w. ((w.0, value.Tree (tree.Binary i (binary_of (rel.kind_at ts i)) (the_tree s) w.1) ∷ rest s, λ h x r f q. (tree.Binary i (binary_of (rel.kind_at ts i)) x w.1, rel.compared f e w.2, ap (λ z. value.Tree (tree.Binary i (binary_of (rel.kind_at ts i)) (the_tree z) w.1) ∷ rest z) q)), refl, refl)),
+    (λ i s e w. (
+      (
+        w.0,
+        value.Tree (tree.Binary i (binary_of (rel.kind_at ts i)) (the_tree s) w.1)
+            ∷ rest s,
+        λ h x r f q. (
+          tree.Binary i (binary_of (rel.kind_at ts i)) x w.1,
+          rel.compared f e w.2,
+          ap (λ z. value.Tree (tree.Binary i (binary_of (rel.kind_at ts i)) (the_tree z) w.1) ∷ rest z) q,
+        ),
+      ),
+      refl,
+      refl,
+    )),
     (
-      (λ i s e1 e2. ((suc (suc i), value.Tree (tree.Like i (the_tree s) (content (lexeme_at ts (suc i)))) ∷ rest s, λ h x r f q. (tree.Like i x (content (lexeme_at ts (suc i))), rel.like f e1 e2, ap (λ z. value.Tree (tree.Like i (the_tree z) (content (lexeme_at ts (suc i)))) ∷ rest z) q)), refl, refl)),
+      (λ i s e1 e2. (
+        (
+          suc (suc i),
+          value.Tree (tree.Like i (the_tree s) (content (lexeme_at ts (suc i))))
+              ∷ rest s,
+          λ h x r f q. (
+            tree.Like i x (content (lexeme_at ts (suc i))),
+            rel.like f e1 e2,
+            ap (λ z. value.Tree (tree.Like i (the_tree z) (content (lexeme_at ts (suc i)))) ∷ rest z) q,
+          ),
+        ),
+        refl,
+        refl,
+      )),
       (
         (λ i s. ((i, s, λ h x r f q. (x, rel.untested f, q)), refl, refl)),
         tt,
@@ -522,7 +693,17 @@ module _ (ts : List Lexeme) where
   of_sets_tail : Of 46
   unfolding act actions.act_list actions.act_tree grammar
   of_sets_tail = (
-    (λ i s e w v. ((v.0, v.1, λ h x r f q. v.2 h (tree.Binary i (binary_of (rel.kind_at ts i)) x w.1) r (rel.sets f e w.2) (ap (λ z. value.Tree (tree.Binary i (binary_of (rel.kind_at ts i)) (the_tree z) w.1) ∷ rest z) q)), refl, refl)),
+    (λ i s e w v. (
+      (
+        v.0,
+        v.1,
+        λ h x r f q. v.2 h (tree.Binary i (binary_of (rel.kind_at ts i)) x w.1) r
+            (rel.sets f e w.2) (ap (λ z. value.Tree (tree.Binary i (binary_of (rel.kind_at ts i)) (the_tree z) w.1)
+            ∷ rest z) q),
+      ),
+      refl,
+      refl,
+    )),
     (
       (λ i s. ((i, s, λ h x r d q. (x, d, q)), refl, refl)),
       tt,
@@ -532,7 +713,17 @@ module _ (ts : List Lexeme) where
   of_sum_tail : Of 47
   unfolding act actions.act_list actions.act_tree grammar
   of_sum_tail = (
-    (λ i s e w v. ((v.0, v.1, λ h x r f q. v.2 h (tree.Binary i (binary_of (rel.kind_at ts i)) x w.1) r (rel.sum f e w.2) (ap (λ z. value.Tree (tree.Binary i (binary_of (rel.kind_at ts i)) (the_tree z) w.1) ∷ rest z) q)), refl, refl)),
+    (λ i s e w v. (
+      (
+        v.0,
+        v.1,
+        λ h x r f q. v.2 h (tree.Binary i (binary_of (rel.kind_at ts i)) x w.1) r
+            (rel.sum f e w.2) (ap (λ z. value.Tree (tree.Binary i (binary_of (rel.kind_at ts i)) (the_tree z) w.1)
+            ∷ rest z) q),
+      ),
+      refl,
+      refl,
+    )),
     (
       (λ i s. ((i, s, λ h x r d q. (x, d, q)), refl, refl)),
       tt,
@@ -542,9 +733,30 @@ module _ (ts : List Lexeme) where
   of_product_tail : Of 48
   unfolding act actions.act_list actions.act_tree grammar
   of_product_tail = (
-    (λ i s e w v. ((v.0, v.1, λ h x r f q. v.2 h (tree.Binary i (binary_of (rel.kind_at ts i)) x w.1) r (rel.times f e w.2) (ap (λ z. value.Tree (tree.Binary i (binary_of (rel.kind_at ts i)) (the_tree z) w.1) ∷ rest z) q)), refl, refl)),
+    (λ i s e w v. (
+      (
+        v.0,
+        v.1,
+        λ h x r f q. v.2 h (tree.Binary i (binary_of (rel.kind_at ts i)) x w.1) r
+            (rel.times f e w.2) (ap (λ z. value.Tree (tree.Binary i (binary_of (rel.kind_at ts i)) (the_tree z) w.1)
+            ∷ rest z) q),
+      ),
+      refl,
+      refl,
+    )),
     (
-      (λ i s e w v. ((v.0, v.1, λ h x r f q. v.2 h (tree.Divide i (division_of (rel.kind_at ts i)) x w.1) r (rel.divided f e w.2) (ap (λ z. value.Tree (tree.Divide i (division_of (rel.kind_at ts i)) (the_tree z) w.1) ∷ rest z) q)), refl, refl)),
+      (λ i s e w v. (
+        (
+          v.0,
+          v.1,
+          λ h x r f q. v.2 h (tree.Divide i (division_of (rel.kind_at ts i)) x w.1) r
+              (rel.divided f e w.2) (ap (λ z. value.Tree
+              (tree.Divide i (division_of (rel.kind_at ts i)) (the_tree z) w.1)
+              ∷ rest z) q),
+        ),
+        refl,
+        refl,
+      )),
       (
         (λ i s. ((i, s, λ h x r d q. (x, d, q)), refl, refl)),
         tt,
@@ -565,7 +777,16 @@ module _ (ts : List Lexeme) where
   of_path_tail : Of 50
   unfolding act actions.act_list actions.act_tree grammar
   of_path_tail = (
-    (λ i s e c v. ((v.0, v.1, λ h x r f q. v.2 h (tree.Dot (suc i) x (rel.text_at ts (suc i))) r (rel.dot f e c) (ap (λ z. value.Tree (tree.Dot (suc i) (the_tree z) (rel.text_at ts (suc i))) ∷ rest z) q)), refl, refl)),
+    (λ i s e c v. (
+      (
+        v.0,
+        v.1,
+        λ h x r f q. v.2 h (tree.Dot (suc i) x (rel.text_at ts (suc i))) r (rel.dot f e c)
+            (ap (λ z. value.Tree (tree.Dot (suc i) (the_tree z) (rel.text_at ts (suc i))) ∷ rest z) q),
+      ),
+      refl,
+      refl,
+    )),
     (
       (λ i s. ((i, s, λ h x r d q. (x, d, q)), refl, refl)),
       tt,
@@ -575,7 +796,15 @@ module _ (ts : List Lexeme) where
   of_atom : Of 51
   unfolding act actions.act_list actions.act_tree grammar
   of_atom = (
-    (λ i s e1 e2 w e3. ((suc w.0, tree.Unary i (unary_of (rel.kind_at ts i)) w.1, rel.call (EXISTS, e1, refl) e2 w.2 e3), refl, refl)),
+    (λ i s e1 e2 w e3. (
+      (
+        suc w.0,
+        tree.Unary i (unary_of (rel.kind_at ts i)) w.1,
+        rel.call (EXISTS, e1, refl) e2 w.2 e3,
+      ),
+      refl,
+      refl,
+    )),
     (
       (λ i s w. (w, refl, refl)),
       tt,
@@ -585,7 +814,15 @@ module _ (ts : List Lexeme) where
   of_atom_but_exists : Of 52
   unfolding act actions.act_list actions.act_tree grammar
   of_atom_but_exists = (
-    (λ i s e1 e2 w e3. ((suc w.0, tree.Unary i (unary_of (rel.kind_at ts i)) w.1, rel.call (DISTINCT, e1, refl) e2 w.2 e3), refl, refl)),
+    (λ i s e1 e2 w e3. (
+      (
+        suc w.0,
+        tree.Unary i (unary_of (rel.kind_at ts i)) w.1,
+        rel.call (DISTINCT, e1, refl) e2 w.2 e3,
+      ),
+      refl,
+      refl,
+    )),
     (
       (λ i s w. ((w.0, w.1, w.2.1), refl, refl)),
       tt,
@@ -595,27 +832,87 @@ module _ (ts : List Lexeme) where
   of_atom_but_both : Of 53
   unfolding act actions.act_list actions.act_tree grammar
   of_atom_but_both = (
-    (λ i s c. ((suc i, tree.Whole i (whole (lexeme_at ts i)), (class_apart i WHOLES refl c, rel.number c)), refl, refl)),
+    (λ i s c. (
+      (suc i, tree.Whole i (whole (lexeme_at ts i)), (class_apart i WHOLES refl c, rel.number c)),
+      refl,
+      refl,
+    )),
     (
-      (λ i s e. ((suc i, tree.Text i (content (lexeme_at ts i)), (two i TEXT DISTINCT refl e, rel.text e)), refl, refl)),
+      (λ i s e. (
+        (suc i, tree.Text i (content (lexeme_at ts i)), (two i TEXT DISTINCT refl e, rel.text e)),
+        refl,
+        refl,
+      )),
       (
-        (λ i s c. ((suc i, tree.Constant i (constant_of (rel.kind_at ts i)), (class_apart i CONSTANTS refl c, rel.constant c)), refl, refl)),
+        (λ i s c. (
+          (
+            suc i,
+            tree.Constant i (constant_of (rel.kind_at ts i)),
+            (class_apart i CONSTANTS refl c, rel.constant c),
+          ),
+          refl,
+          refl,
+        )),
         (
           (λ i s e. ((suc i, tree.Name i (rel.text_at ts i), (two i NAME DISTINCT refl e, rel.name e)), refl, refl)),
           (
             (λ i s e1 w e2. ((suc w.0, w.1, (two i OPEN DISTINCT refl e1, rel.parens e1 w.2 e2)), refl, refl)),
             (
-              (λ i s e1 e2 w. let g = w.3 (value.Mark (record { at = i; kind = rel.kind_at ts i }) ∷ s) refl in ((suc w.0, tree.Struct i g.0, (two i STRUCT DISTINCT refl e1, rel.struct e1 e2 g.1 w.2)), refl, ap (λ z. actions.struct z) (sym g.2))),
+              (λ i s e1 e2 w. let g = w.3 (value.Mark (record { at = i; kind = rel.kind_at ts i }) ∷ s) refl in (
+                (suc w.0, tree.Struct i g.0, (two i STRUCT DISTINCT refl e1, rel.struct e1 e2 g.1 w.2)),
+                refl,
+                ap (λ z. actions.struct z) (sym g.2),
+              )),
               (
-                (λ i s e1 e2 w. let g = w.3 (value.Mark (record { at = i; kind = rel.kind_at ts i }) ∷ s) refl in ((suc w.0, tree.Bag i g.0, (two i BAG DISTINCT refl e1, rel.bag e1 e2 g.1 w.2)), refl, ap (λ z. actions.bag z) (sym g.2))),
+                (λ i s e1 e2 w. let g = w.3 (value.Mark (record { at = i; kind = rel.kind_at ts i }) ∷ s) refl in (
+                  (suc w.0, tree.Bag i g.0, (two i BAG DISTINCT refl e1, rel.bag e1 e2 g.1 w.2)),
+                  refl,
+                  ap (λ z. actions.bag z) (sym g.2),
+                )),
                 (
-                  (λ i s c e1 w e2. ((suc w.0, tree.Unary i (unary_of (rel.kind_at ts i)) w.1, (class_apart i PLAIN_UNARIES refl c, rel.call (plain_unary i c) e1 w.2 e2)), refl, refl)),
-                  (
-                    (λ i s c e1 w e2 v e3. ((suc v.0, tree.Binary i (binary_of (rel.kind_at ts i)) w.1 v.1, (class_apart i BINARIES refl c, rel.call_two c e1 w.2 e2 v.2 e3)), refl, refl)),
+                  (λ i s c e1 w e2. (
                     (
-                      (λ i s c e1 e2 e3 w e4. ((suc w.0, tree.Brand i (branding_of (rel.kind_at ts i)) (rel.text_at ts (suc (suc i))) w.1, (class_apart i BRANDINGS refl c, rel.brand c e1 e2 e3 w.2 e4)), refl, refl)),
+                      suc w.0,
+                      tree.Unary i (unary_of (rel.kind_at ts i)) w.1,
+                      (class_apart i PLAIN_UNARIES refl c, rel.call (plain_unary i c) e1 w.2 e2),
+                    ),
+                    refl,
+                    refl,
+                  )),
+                  (
+                    (λ i s c e1 w e2 v e3. (
                       (
-                        (λ i s e1 e2 w e3 l1 l2 l3 u e4 r1 r2 r3 v e5. ((suc v.0, tree.Match i w.1 (trees.named (suc (suc w.0)) (rel.text_at ts (suc (suc w.0))) u.1) (trees.named (suc (suc u.0)) (rel.text_at ts (suc (suc u.0))) v.1), (two i MATCH DISTINCT refl e1, rel.match e1 e2 w.2 e3 (rel.case l1 l2 l3 u.2) e4 (rel.case r1 r2 r3 v.2) e5)), refl, refl)),
+                        suc v.0,
+                        tree.Binary i (binary_of (rel.kind_at ts i)) w.1 v.1,
+                        (class_apart i BINARIES refl c, rel.call_two c e1 w.2 e2 v.2 e3),
+                      ),
+                      refl,
+                      refl,
+                    )),
+                    (
+                      (λ i s c e1 e2 e3 w e4. (
+                        (
+                          suc w.0,
+                          tree.Brand i (branding_of (rel.kind_at ts i)) (rel.text_at ts (suc (suc i))) w.1,
+                          (class_apart i BRANDINGS refl c, rel.brand c e1 e2 e3 w.2 e4),
+                        ),
+                        refl,
+                        refl,
+                      )),
+                      (
+                        (λ i s e1 e2 w e3 l1 l2 l3 u e4 r1 r2 r3 v e5. (
+                          (
+                            suc v.0,
+                            tree.Match i w.1 (trees.named (suc (suc w.0)) (rel.text_at ts (suc (suc w.0))) u.1)
+                                (trees.named (suc (suc u.0)) (rel.text_at ts (suc (suc u.0))) v.1),
+                            (
+                              two i MATCH DISTINCT refl e1,
+                              rel.match e1 e2 w.2 e3 (rel.case l1 l2 l3 u.2) e4 (rel.case r1 r2 r3 v.2) e5,
+                            ),
+                          ),
+                          refl,
+                          refl,
+                        )),
                         tt,
                       ),
                     ),
@@ -634,7 +931,17 @@ module _ (ts : List Lexeme) where
   of_fields = (
     (λ i s e. ((i, s, e, λ r q. ([], rel.no_fields, q)), refl, refl)),
     (
-      (λ i s w v e. ((v.0, v.1, e, λ r q. let g = v.2 i (w.1 ∷ []) r (rel.one_field w.2) (with_entry w.1 s [] r q) in (g.0, rel.fields g.1, g.2)), refl, refl)),
+      (λ i s w v e. (
+        (
+          v.0,
+          v.1,
+          e,
+          λ r q. let g = v.2 i (w.1 ∷ []) r (rel.one_field w.2) (with_entry w.1 s [] r q) in
+              (g.0, rel.fields g.1, g.2),
+        ),
+        refl,
+        refl,
+      )),
       tt,
     ),
   )
@@ -642,7 +949,16 @@ module _ (ts : List Lexeme) where
   of_more_fields : Of 55
   unfolding act actions.act_list actions.act_tree grammar
   of_more_fields = (
-    (λ i s e w v. ((v.0, v.1, λ h xs r d q. v.2 h (xs ++ w.1 ∷ []) r (rel.more_fields d e w.2) (with_entry w.1 s xs r q)), refl, refl)),
+    (λ i s e w v. (
+      (
+        v.0,
+        v.1,
+        λ h xs r d q. v.2 h (xs ++ w.1 ∷ []) r (rel.more_fields d e w.2)
+            (with_entry w.1 s xs r q),
+      ),
+      refl,
+      refl,
+    )),
     (
       (λ i s. ((i, s, λ h x r d q. (x, d, q)), refl, refl)),
       tt,
@@ -661,7 +977,17 @@ module _ (ts : List Lexeme) where
   of_members = (
     (λ i s e. ((i, s, e, λ r q. ([], rel.no_members, q)), refl, refl)),
     (
-      (λ i s w v e. ((v.0, v.1, e, λ r q. let g = v.2 i (w.1 ∷ []) r (rel.one_member w.2) (with_member w.1 s [] r q) in (g.0, rel.members g.1, g.2)), refl, refl)),
+      (λ i s w v e. (
+        (
+          v.0,
+          v.1,
+          e,
+          λ r q. let g = v.2 i (w.1 ∷ []) r (rel.one_member w.2) (with_member w.1 s [] r q) in
+              (g.0, rel.members g.1, g.2),
+        ),
+        refl,
+        refl,
+      )),
       tt,
     ),
   )
@@ -669,7 +995,16 @@ module _ (ts : List Lexeme) where
   of_more_members : Of 58
   unfolding act actions.act_list actions.act_tree grammar
   of_more_members = (
-    (λ i s e w v. ((v.0, v.1, λ h xs r d q. v.2 h (xs ++ w.1 ∷ []) r (rel.more_members d e w.2) (with_member w.1 s xs r q)), refl, refl)),
+    (λ i s e w v. (
+      (
+        v.0,
+        v.1,
+        λ h xs r d q. v.2 h (xs ++ w.1 ∷ []) r (rel.more_members d e w.2)
+            (with_member w.1 s xs r q),
+      ),
+      refl,
+      refl,
+    )),
     (
       (λ i s. ((i, s, λ h x r d q. (x, d, q)), refl, refl)),
       tt,

@@ -1,5 +1,6 @@
 -- The tokens of a scan, one after the other.
-use Rattle.std.proofs.Common.{◌≡◌, ◌≤◌, ◌<◌, ℕ, zero, suc, ◌+◌, List, [], ◌∷◌, ◌++◌, map, length, take, refl, sym, ap, ◌∙◌, subst, arith}
+use Rattle.std.proofs.Common.{◌≡◌, ◌≤◌, ◌<◌, ℕ, zero, suc, ◌+◌, List, [], ◌∷◌, ◌++◌, map, length, take, refl, sym, ap}
+use Rattle.std.proofs.Common.{◌∙◌, subst, arith}
 use Rattle.std.specs.Prelude.{slice_get}
 use Rattle.std.proofs.lemmas.List.{length-map, take_all}
 use Rattle.qc_lex.specs.declared.token.Placed.{Placed}
@@ -12,7 +13,8 @@ same_token [] at = refl
 same_token (w ∷ ws) zero = refl
 same_token (w ∷ ws) (suc at) = same_token ws at
 
-one_more : (ws : List Placed) (at : ℕ) → at < length ws → map kind (take (suc at) (lexemes ws)) ≡ map kind (take at (lexemes ws)) ++ kind (lexeme_or (slice_get ws at)) ∷ []
+one_more : (ws : List Placed) (at : ℕ) → at < length ws
+    → map kind (take (suc at) (lexemes ws)) ≡ map kind (take at (lexemes ws)) ++ kind (lexeme_or (slice_get ws at)) ∷ []
 one_more [] at h = absurd (omega arith)
 one_more (w ∷ ws) zero h = refl
 one_more (w ∷ ws) (suc at) h = ap (λ ks. kind w.lexeme ∷ ks) (one_more ws at (omega arith))
@@ -25,5 +27,6 @@ next_kind ws at ks h e =
     rw n (ap (λ js. js ++ kind (lexeme_or (slice_get ws at)) ∷ []) e ∙ sym (one_more ws at h))
 
 -- all kinds
-pub all_kinds : (ws : List Placed) (at : ℕ) (ks : List ℕ) → length ws ≤ at → ks ≡ map kind (take at (lexemes ws)) → ks ≡ map kind (lexemes ws)
+pub all_kinds : (ws : List Placed) (at : ℕ) (ks : List ℕ) → length ws ≤ at → ks ≡ map kind (take at (lexemes ws))
+    → ks ≡ map kind (lexemes ws)
 all_kinds ws at ks h e = e ∙ ap (map kind) (take_all at (lexemes ws) (omega (arith, length-map ws (λ w. w.lexeme))))

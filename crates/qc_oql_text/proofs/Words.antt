@@ -1,5 +1,6 @@
 -- What the words of each rule of the table are in the grammar, and what they make of the stack.
-use Rattle.std.proofs.Common.{◌≡◌, ◌&&◌, ℕ, suc, pred, Bool, true, false, List, [], ◌∷◌, ◌++◌, map, refl, eqb, slice_get, Some}
+use Rattle.std.proofs.Common.{◌≡◌, ◌&&◌, ℕ, suc, pred, Bool, true, false, List, [], ◌∷◌, ◌++◌, map, refl, eqb}
+use Rattle.std.proofs.Common.{slice_get, Some}
 use Rattle.std.specs.Prelude.{Option}
 use Rattle.qc_grammar.specs.declared.symbol.Symbol.{Symbol}
 use Rattle.qc_grammar.specs.declared.symbol.Symbol.TheVariants.{Token}
@@ -14,7 +15,9 @@ use Rattle.qc_oql_tree.specs.declared.tree.Oql.TheVariants as tree
 use Rattle.qc_oql_tree.specs.declared.tree.Order.{Order}
 use Rattle.qc_oql_tree.specs.declared.tree.Select.{Select}
 use Rattle.qc_oql_tree.specs.Grammar as rel
-use Rattle.qc_oql_tree.specs.Kinds.{DISTINCT, EXISTS, FROM, CLOSE, COUNT, SUM, MIN, MAX, AVG, ELEMENT, FLATTEN, ABS, LEFT, RIGHT, UNBRAND, WHOLES, CONSTANTS, SETS, SUMS, DIVISIONS, TESTS, BINARIES, BRANDINGS, LABELS}
+use Rattle.qc_oql_tree.specs.Kinds.{DISTINCT, EXISTS, FROM, CLOSE, COUNT, SUM, MIN, MAX, AVG, ELEMENT, FLATTEN, ABS}
+use Rattle.qc_oql_tree.specs.Kinds.{LEFT, RIGHT, UNBRAND, WHOLES, CONSTANTS, SETS, SUMS, DIVISIONS, TESTS, BINARIES}
+use Rattle.qc_oql_tree.specs.Kinds.{BRANDINGS, LABELS}
 use Rattle.qc_oql_tree.specs.Lexemes.{kind}
 use Rattle.qc_oql_tree.specs.Trees as trees
 use Rattle.qc_oql_text.specs.declared.value.Value.{Value}
@@ -34,7 +37,8 @@ puts {A = A} put F = record {
 -- of the value on top a longer one
 abbrev pub grows : {A : Type 0} → (A → Value) → (ℕ → ℕ → A → Type 0) → (ℕ → ℕ → A → Type 0) → Kept Values
 grows {A = A} put F G = record {
-  Word = λ i s. (j : ℕ) × (t : Values) × ((h : ℕ) (x : A) (r : Values) → F h i x → s ≡ put x ∷ r → (y : A) × G h j y × (t ≡ put y ∷ r));
+  Word = λ i s. (j : ℕ) × (t : Values) × ((h : ℕ) (x : A) (r : Values) → F h i x → s ≡ put x ∷ r
+      → (y : A) × G h j y × (t ≡ put y ∷ r));
   end = λ i s w. w.0;
   stack = λ i s w. w.1;
 }
@@ -42,7 +46,8 @@ grows {A = A} put F G = record {
 -- a list of a language in place of the empty one, and a bracket
 abbrev pub lists : {A : Type 0} → (List A → Value) → (ℕ → ℕ → List A → Type 0) → (ℕ → Type 0) → Kept Values
 lists {A = A} put F Closed = record {
-  Word = λ i s. (j : ℕ) × (t : Values) × Closed j × ((r : Values) → s ≡ put [] ∷ r → (xs : List A) × F i j xs × (t ≡ put xs ∷ r));
+  Word = λ i s. (j : ℕ) × (t : Values) × Closed j
+      × ((r : Values) → s ≡ put [] ∷ r → (xs : List A) × F i j xs × (t ≡ put xs ∷ r));
   end = λ i s w. suc w.0;
   stack = λ i s w. w.1;
 }
@@ -147,7 +152,9 @@ module _ (ts : List Lexeme) where
   -- behind `exists`
   abbrev pub exists_rest : Kept Values
   exists_rest = record {
-    Word = λ i s. (j : ℕ) × (t : Values) × ((h : ℕ) (r : Values) → i ≡ suc h → rel.Is ts h EXISTS → s ≡ value.Mark (record { at = h; kind = rel.kind_at ts h }) ∷ r
+    Word = λ i s. (j : ℕ) × (t : Values)
+        × ((h : ℕ) (r : Values) → i ≡ suc h → rel.Is ts h EXISTS
+        → s ≡ value.Mark (record { at = h; kind = rel.kind_at ts h }) ∷ r
         → (x : Oql) × rel.Q ts h j x × (t ≡ value.Tree x ∷ r));
     end = λ i s w. w.0;
     stack = λ i s w. w.1;
@@ -163,30 +170,42 @@ module _ (ts : List Lexeme) where
   -- of the levels of operators, but for the last one
   abbrev levels : ((ℕ → ℕ → Oql → Type 0) → ℕ → ℕ → Oql → Type 0) → AllKept Values → AllKept Values
   levels F Rs =
-      also (trees_of (F (rel.And ts))) (also (trees_of (F (rel.Not ts))) (also (trees_of (F (rel.Rel ts))) (also (trees_of (F (rel.Sets ts)))
-      (also (trees_of (F (rel.Sum ts))) (also (trees_of (F (rel.Product ts))) (also (trees_of (F (rel.Neg ts))) (also (trees_of (F (rel.Path ts))) Rs)))))))
+      also (trees_of (F (rel.And ts))) (also (trees_of (F (rel.Not ts)))
+      (also (trees_of (F (rel.Rel ts))) (also (trees_of (F (rel.Sets ts)))
+      (also (trees_of (F (rel.Sum ts))) (also (trees_of (F (rel.Product ts)))
+      (also (trees_of (F (rel.Neg ts))) (also (trees_of (F (rel.Path ts))) Rs)))))))
 
   abbrev tails : AllKept Values → AllKept Values
   tails Rs =
-      also (tail (rel.Or ts) (rel.Or ts)) (also (tail (rel.And ts) (rel.And ts)) (also (tail (rel.Sets ts) (rel.Rel ts)) (also (tail (rel.Sets ts) (rel.Sets ts))
-      (also (tail (rel.Sum ts) (rel.Sum ts)) (also (tail (rel.Product ts) (rel.Product ts)) (also (puts value.Divisor (rel.Divisor ts)) (also (tail (rel.Path ts) (rel.Path ts)) Rs)))))))
+      also (tail (rel.Or ts) (rel.Or ts))
+      (also (tail (rel.And ts) (rel.And ts))
+      (also (tail (rel.Sets ts) (rel.Rel ts)) (also (tail (rel.Sets ts) (rel.Sets ts))
+      (also (tail (rel.Sum ts) (rel.Sum ts))
+      (also (tail (rel.Product ts) (rel.Product ts))
+      (also (puts value.Divisor (rel.Divisor ts)) (also (tail (rel.Path ts) (rel.Path ts)) Rs)))))))
 
   abbrev classes : AllKept Values
   classes =
-      also (class WHOLES) (also (class CONSTANTS) (also (class SETS) (also (class SUMS) (also (class DIVISIONS) (also (class TESTS)
+      also (class WHOLES) (also (class CONSTANTS)
+      (also (class SETS) (also (class SUMS) (also (class DIVISIONS) (also (class TESTS)
       (also (class PLAIN_UNARIES) (also (class BINARIES) (also (class BRANDINGS) (also (class LABELS) none)))))))))
 
   abbrev atoms : AllKept Values
   atoms =
       also (trees_of (rel.Atom ts)) (also (trees_of (rel.Atom ts)) (also (trees_of (Apart (rel.Atom ts)))
-      (also (lists value.Entries (rel.Fields ts) Closing) (also (grows value.Entries (rel.SomeFields ts) (rel.SomeFields ts)) (also field
-      (also (lists value.Members (rel.Members ts) Closing) (also (grows value.Members (rel.SomeMembers ts) (rel.SomeMembers ts)) classes)))))))
+      (also (lists value.Entries (rel.Fields ts) Closing)
+      (also (grows value.Entries (rel.SomeFields ts) (rel.SomeFields ts)) (also field
+      (also (lists value.Members (rel.Members ts) Closing)
+      (also (grows value.Members (rel.SomeMembers ts) (rel.SomeMembers ts)) classes)))))))
 
   abbrev clauses : AllKept Values → AllKept Values
   clauses Rs =
-      also query (also (grows value.Entries (rel.Defines ts) (rel.Defines ts)) (also ending (also (trees_of (rel.Expr ts)) (also selection (also sources
-      (also (grows value.Entries (rel.Bindings ts) (rel.Bindings ts)) (also binding (also (puts value.Filtered (rel.Filtered ts)) (also (puts value.Ordered (rel.Ordered ts))
-      (also (grows value.Keys (rel.Keys ts) (rel.Keys ts)) (also sort_key (also direction (also (trees_of (rel.Q ts)) (also (trees_of (Apart (rel.Q ts)))
+      also query (also (grows value.Entries (rel.Defines ts) (rel.Defines ts))
+      (also ending (also (trees_of (rel.Expr ts)) (also selection (also sources
+      (also (grows value.Entries (rel.Bindings ts) (rel.Bindings ts))
+      (also binding (also (puts value.Filtered (rel.Filtered ts)) (also (puts value.Ordered (rel.Ordered ts))
+      (also (grows value.Keys (rel.Keys ts) (rel.Keys ts))
+      (also sort_key (also direction (also (trees_of (rel.Q ts)) (also (trees_of (Apart (rel.Q ts)))
       (also (trees_of (Apart (rel.Q ts))) (also exists_rest Rs))))))))))))))))
 
   -- each rule in order

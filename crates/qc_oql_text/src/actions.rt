@@ -12,7 +12,7 @@ use crate::table::{
 };
 use crate::value::Value;
 use crate::{lists, tokens, trees};
-use qc_data::{List, Memory};
+use qc_containers::{List, Memory};
 use qc_grammar::{Event, Stack};
 use qc_lex::Words;
 use qc_oql_tree::{Direction, Quantifier};

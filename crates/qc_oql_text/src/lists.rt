@@ -4,7 +4,7 @@ ghost use Rattle.qc_oql_text.specs.inner.Actions as spec;
 
 use crate::stack::{take_entries, take_entry, take_keys, take_members, take_tree};
 use crate::value::Value;
-use qc_data::Memory;
+use qc_containers::Memory;
 use qc_grammar::Stack;
 use qc_oql_tree::{Direction, Key};
 use std::alloc::Global;

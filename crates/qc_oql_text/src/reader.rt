@@ -1,5 +1,5 @@
 // Whole scans to trees.
-ghost use Rattle.std.specs.Prelude.{◌≡◌, ◌≤◌, ◌*◌, map, length, IfOk};
+ghost use Rattle.std.specs.Prelude.{◌≡◌, ◌≤◌, map, length, IfOk};
 ghost use Rattle.qc_grammar.specs.Parsing.{Parses};
 ghost use Rattle.qc_grammar.specs.inner.Derivations.{Whole};
 ghost use Rattle.qc_lex.specs.Words.{lexemes};
@@ -12,19 +12,19 @@ ghost use Rattle.qc_oql_text.specs.inner.Table.{grammar};
 
 use crate::actions::act;
 use crate::stack::{take_entries, take_tree};
-use crate::table::TABLE;
-use qc_data::{List, Memory};
-use qc_grammar::{Event, Stack, SyntaxFault, read};
+use crate::table::{STEPS, TURNS, WIDTH};
+use qc_containers::{List, Memory};
+use qc_grammar::{Event, Stack, SyntaxFault, Table, read};
 use qc_lex::Words;
 use qc_oql_tree::{Lexeme, Query};
 use std::alloc::Global;
 
-/// The one query that the whole list of tokens spells (`Parses`), which has at most 16 nodes for each token.
+/// The one query that the whole list of tokens spells (`Parses`), which has at most one node for each token.
 /// `BadSyntax` comes exactly where the list spells none, with the place from which on it begins no list that spells a
 /// query, or the number of tokens where it begins one. `Err(Memory)` says that memory was wanting.
 pub fn parse(alloc: Global, words: &Words) -> Result<Query, SyntaxFault>
     ensures parses { Parses oql.Query (lexemes words.now) result }
-    ensures small { IfOk result (λ query. query_size query ≤ 16 * length words.now) }
+    ensures small { IfOk result (λ query. query_size query ≤ length words.now) }
 {
     by_table(alloc, words)
 }
@@ -59,7 +59,14 @@ fn derivation(alloc: Global, words: &Words) -> Result<List<Event>, SyntaxFault>
     ensures { Parses (Whole grammar) (map kind (lexemes words.now)) result }
 {
     match kinds(alloc, words) {
-        Ok(kinds) => read(alloc, TABLE, kinds.as_slice()),
+        Ok(kinds) => {
+            let table = Table {
+                steps: STEPS,
+                width: WIDTH,
+                turns: TURNS,
+            };
+            read(alloc, table, kinds.as_slice())
+        }
         Err(Memory) => Err(SyntaxFault::Memory),
     }
 }

@@ -3,7 +3,7 @@ ghost use Rattle.std.specs.Prelude.{◌≡◌, [], IfOk};
 ghost use Rattle.qc_oql_text.specs.inner.Values as spec;
 
 use crate::value::{Mark, Value, Word};
-use qc_data::{Chars, List, Memory};
+use qc_containers::{Chars, List, Memory};
 use qc_grammar::Stack;
 use qc_oql_tree::{Constant, Filter, Key, Named, Oql, Order};
 use std::alloc::Global;

@@ -6,7 +6,7 @@ ghost use Rattle.qc_oql_text.specs.inner.Actions as spec;
 
 use crate::stack::{take_mark, take_tree};
 use crate::value::{Mark, Value, Word};
-use qc_data::{Boxed, Memory};
+use qc_containers::{Boxed, Memory};
 use qc_grammar::Stack;
 use qc_lex::Words;
 use qc_oql_tree::operators::constant_of;

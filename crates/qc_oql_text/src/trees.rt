@@ -7,7 +7,7 @@ use crate::stack::{
     take_order, take_text, take_tree,
 };
 use crate::value::Value;
-use qc_data::{Boxed, Memory};
+use qc_containers::{Boxed, Memory};
 use qc_grammar::Stack;
 use qc_oql_tree::operators::{binary_of, branding_of, division_of, unary_of};
 use qc_oql_tree::{Filter, Oql, Order, Quantifier, Select, making};

@@ -1,5 +1,5 @@
 // What actions leave for later ones.
-use qc_data::{Chars, List};
+use qc_containers::{Chars, List};
 use qc_oql_tree::{Filter, Key, Named, Oql, Order};
 
 /// The place and the kind of a token.

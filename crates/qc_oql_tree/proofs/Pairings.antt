@@ -47,7 +47,8 @@ one_type_is c oql1.Right t = refl
 one_type_is c oql1.Unbrand t = refl
 one_type_is c oql1.Exists t = refl
 
-pub two_is : (m : Mode) (op : Binary) (a b : Meaning) (s : Bindings) → of_two m op a b s ≡ by_pairing m (pairing_of op) a b s
+pub two_is : (m : Mode) (op : Binary) (a b : Meaning) (s : Bindings)
+    → of_two m op a b s ≡ by_pairing m (pairing_of op) a b s
 two_is m oql2.Or a b s = refl
 two_is m oql2.And a b s = refl
 two_is m oql2.Eq a b s = refl

@@ -1,7 +1,7 @@
 -- Names with their values, and what a name stands for.
 use Rattle.std.specs.Prelude.{ℕ, List, Option, Some, None}
 use Rattle.qc_data.specs.Outcome.{Outcome}
-use Rattle.qc_data.specs.Pairs.{lookup}
+use Rattle.qc_containers.specs.Pairs.{lookup}
 use Rattle.qc_data.specs.declared.data.Datum.{Datum}
 use Rattle.qc_ops.specs.Operands.{found}
 use Rattle.qc_types.specs.Schemas.{WorldOf, global}

@@ -2,7 +2,7 @@
 -- of the
 -- text, but a condition on which a binding rests is checked before what is bound.
 use Rattle.std.specs.Prelude.{ℕ, List, [], ◌∷◌, Option, Some, None, Result, Ok, option_map}
-use Rattle.qc_data.specs.Pairs.{lookup}
+use Rattle.qc_containers.specs.Pairs.{lookup}
 use Rattle.qc_types.specs.declared.ty.Width.TheVariants.{Exact}
 use Rattle.qc_types.specs.declared.ty.Ty.{Ty}
 use Rattle.qc_types.specs.declared.ty.Ty.TheVariants as ty

@@ -220,10 +220,6 @@ WHOLES = ZERO ∷ NONZERO ∷ []
 abbrev pub CONSTANTS : List ℕ
 CONSTANTS = TRUE ∷ FALSE ∷ NIL ∷ []
 
--- literals
-abbrev pub LITERALS : List ℕ
-LITERALS = ZERO ∷ NONZERO ∷ TEXT ∷ CONSTANTS
-
 -- operators on collections
 abbrev pub SETS : List ℕ
 SETS = UNION ∷ EXCEPT ∷ INTERSECT ∷ []
@@ -236,17 +232,9 @@ SUMS = PLUS ∷ MINUS ∷ GLUE ∷ []
 abbrev pub DIVISIONS : List ℕ
 DIVISIONS = DIVIDE ∷ MOD ∷ []
 
--- operators that group like a product
-abbrev pub FACTORS : List ℕ
-FACTORS = TIMES ∷ DIVISIONS
-
 -- comparisons, and membership
 abbrev pub TESTS : List ℕ
 TESTS = EQUAL ∷ NOT_EQUAL ∷ LESS ∷ AT_MOST ∷ GREATER ∷ AT_LEAST ∷ IN ∷ []
-
--- directions of a key
-abbrev pub DIRECTIONS : List ℕ
-DIRECTIONS = ASC ∷ DESC ∷ []
 
 -- functions of one operand
 abbrev pub UNARIES : List ℕ

@@ -1,6 +1,6 @@
 -- The types that the operators, the functions and the literals of queries give.
 use Rattle.std.specs.Prelude.{ℕ, ℤ, cond, List, Option, None, option_map, option_and_then}
-use Rattle.qc_data.specs.Name.{is_name}
+use Rattle.qc_containers.specs.Name.{is_name}
 use Rattle.qc_types.specs.declared.ty.Ty.{Ty}
 use Rattle.qc_types.specs.declared.ty.Ty.TheVariants as ty
 use Rattle.qc_types.specs.Classes.{Defs}

@@ -10,9 +10,7 @@ use Rattle.qc_oql_tree.specs.declared.tree.Division.{Division}
 use Rattle.qc_oql_tree.specs.declared.tree.Division.TheVariants as division
 use Rattle.qc_oql_tree.specs.declared.tree.Branding.{Branding}
 use Rattle.qc_oql_tree.specs.declared.tree.Branding.TheVariants as branding
-use Rattle.qc_oql_tree.specs.declared.tree.Direction.{Direction}
-use Rattle.qc_oql_tree.specs.declared.tree.Direction.TheVariants as direction
-use Rattle.qc_oql_tree.specs.Kinds.{ABS, AND, ASC, AT_LEAST, AT_MOST, AVG, CAST, COUNT, DISTINCT, DIVIDE, ELEMENT}
+use Rattle.qc_oql_tree.specs.Kinds.{ABS, AND, AT_LEAST, AT_MOST, AVG, CAST, COUNT, DISTINCT, DIVIDE, ELEMENT}
 use Rattle.qc_oql_tree.specs.Kinds.{EQUAL, EXCEPT, FALSE, FLATTEN, GLUE, GREATER, IN, INTERSECT, LEAST, LEFT, LESS, MAX}
 use Rattle.qc_oql_tree.specs.Kinds.{MIN, MINUS, NOT, NOT_EQUAL, OR, ORELSE, PLUS, RIGHT, SUM, TIMES, TRUE, UNBRAND}
 use Rattle.qc_oql_tree.specs.Kinds.{UNION}
@@ -70,7 +68,3 @@ division_of k = if eqb k DIVIDE then division.DivBy else division.ModBy
 -- the function of a class that a kind of word is
 abbrev pub branding_of : ℕ → Branding
 branding_of k = if eqb k CAST then branding.Cast else branding.Brand
-
--- the direction that a kind of word is
-abbrev pub direction_of : ℕ → Direction
-direction_of k = if eqb k ASC then direction.Asc else direction.Desc

@@ -1,8 +1,8 @@
 -- What the parts of forms bind and give, by their types.
 use Rattle.std.specs.Prelude.{ℕ, ◌&&◌, not, cond, List, [], ◌∷◌, Option, Some, None, Result, Ok, Err}
 use Rattle.std.specs.Prelude.{option_and_then, is_some}
-use Rattle.qc_data.specs.Name.{is_name}
-use Rattle.qc_data.specs.Pairs.{lookup, put}
+use Rattle.qc_containers.specs.Name.{is_name}
+use Rattle.qc_containers.specs.Pairs.{lookup, put}
 use Rattle.qc_types.specs.declared.ty.Ty.{Ty}
 use Rattle.qc_types.specs.declared.ty.Ty.TheOpen.{Ty-F}
 use Rattle.qc_types.specs.declared.ty.Ty.TheViews.{out-Ty}

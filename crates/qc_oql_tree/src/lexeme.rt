@@ -4,7 +4,7 @@ ghost use Rattle.qc_oql_tree.specs.Lexemes as spec;
 
 use crate::kinds::{NONZERO, OTHER, TEXT, ZERO};
 use crate::words::{mark_kind, word_kind};
-use qc_data::{Chars, Memory};
+use qc_containers::{Chars, Memory};
 use qc_lex::{Kind, Words};
 use std::alloc::Global;
 

@@ -3,7 +3,7 @@ ghost use Rattle.std.specs.Prelude.{◌≡◌, IfOk};
 ghost use Rattle.qc_oql_tree.specs.declared.tree.Oql.TheVariants as tree;
 
 use crate::tree::{Binary, Named, Oql, Quantifier};
-use qc_data::{Boxed, Memory};
+use qc_containers::{Boxed, Memory};
 use std::alloc::Global;
 
 /// An operator or a function with its operands.

@@ -3,11 +3,11 @@ ghost use Rattle.std.specs.Prelude.{◌≡◌};
 ghost use Rattle.qc_oql_tree.specs.Operators as spec;
 
 use crate::kinds::{
-    ABS, AND, ASC, AT_LEAST, AT_MOST, AVG, CAST, COUNT, DISTINCT, DIVIDE, ELEMENT, EQUAL, EXCEPT,
-    FALSE, FLATTEN, GLUE, GREATER, IN, INTERSECT, LEAST, LEFT, LESS, MAX, MIN, MINUS, NOT,
-    NOT_EQUAL, OR, ORELSE, PLUS, RIGHT, SUM, TIMES, TRUE, UNBRAND, UNION,
+    ABS, AND, AT_LEAST, AT_MOST, AVG, CAST, COUNT, DISTINCT, DIVIDE, ELEMENT, EQUAL, EXCEPT, FALSE,
+    FLATTEN, GLUE, GREATER, IN, INTERSECT, LEAST, LEFT, LESS, MAX, MIN, MINUS, NOT, NOT_EQUAL, OR,
+    ORELSE, PLUS, RIGHT, SUM, TIMES, TRUE, UNBRAND, UNION,
 };
-use crate::tree::{Binary, Branding, Constant, Direction, Division, Unary};
+use crate::tree::{Binary, Branding, Constant, Division, Unary};
 
 /// The literal that a kind of word is.
 pub fn constant_of(kind: u32) -> Constant
@@ -123,16 +123,5 @@ pub fn branding_of(kind: u32) -> Branding
         Branding::Cast
     } else {
         Branding::Brand
-    }
-}
-
-/// The direction that a kind of word is.
-pub fn direction_of(kind: u32) -> Direction
-    ensures { result ≡ spec.direction_of kind }
-{
-    if kind == ASC {
-        Direction::Asc
-    } else {
-        Direction::Desc
     }
 }

@@ -4,7 +4,7 @@ ghost use Rattle.qc_oql_tree.specs.OperatorMeanings.{branding, division};
 ghost use Rattle.qc_oql_tree.specs.inner.Pairings.{on_one, pairing_of};
 
 use crate::tree::{Binary, Branding, Division, Unary};
-use qc_data::Name;
+use qc_containers::Name;
 use qc_ops::{Binary as OnTwo, Divisor, Unary as OnOne};
 
 /// How an operator of two operands goes back to operators on values.

@@ -1,5 +1,5 @@
 // Trees of queries. The first field of each form is the number of the token that it is named by.
-use qc_data::{Boxed, Chars, List};
+use qc_containers::{Boxed, Chars, List};
 
 /// A literal that is a word.
 #[derive(Clone, Copy)]

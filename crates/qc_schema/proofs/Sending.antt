@@ -2,7 +2,7 @@
 use Rattle.std.proofs.Common.{◌≡◌, ℕ, suc, List, [], ◌∷◌, length, map, refl, ap}
 use Rattle.serde_json.specs.Events.{items_len, members_len}
 use Rattle.serde_json.specs.View.{items_of}
-use Rattle.qc_data.specs.Rising.{on_value}
+use Rattle.qc_containers.specs.Rising.{on_value}
 use Rattle.qc_data.specs.declared.data.Json.{Json}
 use Rattle.qc_schema.specs.Writing.{data_of, members_of}
 

@@ -1,5 +1,6 @@
 -- The schema that a JSON tree means: the file's first version.
-use Rattle.std.specs.Prelude.{ℕ, ◌==◌, pos, List, [], ◌∷◌, reverse, Bool, false, ◌&&◌, cond, Option, Some, None, option_map, option_and_then, codes, ◌≡◌}
+use Rattle.std.specs.Prelude.{ℕ, ◌==◌, pos, List, [], ◌∷◌, reverse, Bool, false, ◌&&◌, cond, Option, Some, None}
+use Rattle.std.specs.Prelude.{option_map, option_and_then, codes, ◌≡◌}
 use Rattle.std.specs.Str.{bytes_eq}
 use Rattle.qc_data.specs.declared.data.Json.{Json}
 use Rattle.qc_data.specs.declared.data.Json.TheOpen.{Json-F}
@@ -12,7 +13,8 @@ use Rattle.qc_schema.specs.Typing.{said}
 
 -- the class of a name, a parent and a type that are there
 abbrev pub class_from : Option (List ℕ) → Option (Option (List ℕ)) → Option Ty → Option ClassDef
-class_from n p t = option_and_then (λ n. option_and_then (λ p. option_map (λ t. record { name = n; parent = p; shape = t }) t) p) n
+class_from n p t =
+    option_and_then (λ n. option_and_then (λ p. option_map (λ t. record { name = n; parent = p; shape = t }) t) p) n
 
 -- by the outermost layer of a tree
 abbrev pub parent_at : Json-F Json → Option (List ℕ) → Option (Option (List ℕ))
@@ -28,7 +30,9 @@ abbrev pub class_parts : List (List ℕ × Json) → Option ClassDef
 class_parts [] = None
 class_parts (a ∷ []) = None
 class_parts (a ∷ b ∷ []) = None
-class_parts (a ∷ b ∷ c ∷ []) = cond (bytes_eq a.0 (codes "name") && (bytes_eq b.0 (codes "parent") && bytes_eq c.0 (codes "type"))) (class_from (said a.1).class (parent_of b.1) (said c.1).ty) None
+class_parts (a ∷ b ∷ c ∷ []) =
+    cond (bytes_eq a.0 (codes "name") && (bytes_eq b.0 (codes "parent") && bytes_eq c.0 (codes "type")))
+    (class_from (said a.1).class (parent_of b.1) (said c.1).ty) None
 class_parts (a ∷ b ∷ c ∷ d ∷ ps) = None
 
 -- by the outermost layer of a tree
@@ -65,7 +69,9 @@ is_one j = one_at (out-Json j)
 
 -- the schema of classes in the order listed, and of globals, where they make one
 abbrev pub schema_from : List ClassDef → List (List ℕ × Ty) → Option SchemaOf
-schema_from ds gs = cond (good_classes (reverse ds) && good_globals (reverse ds) gs) (Some (record { classes = reverse ds; globals = gs })) None
+schema_from ds gs =
+    cond (good_classes (reverse ds) && good_globals (reverse ds) gs)
+    (Some (record { classes = reverse ds; globals = gs })) None
 
 -- the same of the file's parts, in the first version
 abbrev pub from_parts : Option (List ClassDef) → Option (List (List ℕ × Ty)) → Bool → Option SchemaOf
@@ -76,7 +82,9 @@ abbrev pub file_parts : List (List ℕ × Json) → Option SchemaOf
 file_parts [] = None
 file_parts (a ∷ []) = None
 file_parts (a ∷ b ∷ []) = None
-file_parts (a ∷ b ∷ c ∷ []) = cond (bytes_eq a.0 (codes "classes") && (bytes_eq b.0 (codes "globals") && bytes_eq c.0 (codes "version"))) (from_parts (classes_of a.1) (said b.1).row (is_one c.1)) None
+file_parts (a ∷ b ∷ c ∷ []) =
+    cond (bytes_eq a.0 (codes "classes") && (bytes_eq b.0 (codes "globals") && bytes_eq c.0 (codes "version")))
+    (from_parts (classes_of a.1) (said b.1).row (is_one c.1)) None
 file_parts (a ∷ b ∷ c ∷ d ∷ ps) = None
 
 -- by the outermost layer of a tree

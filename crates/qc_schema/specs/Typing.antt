@@ -1,7 +1,7 @@
 -- The type that a JSON tree means in a schema file.
 use Rattle.std.specs.Prelude.{ℕ, List, [], ◌∷◌, ◌&&◌, cond, Option, Some, None, option_map, option_and_then, codes}
 use Rattle.std.specs.Str.{bytes_eq}
-use Rattle.qc_data.specs.Name.{is_name}
+use Rattle.qc_containers.specs.Name.{is_name}
 use Rattle.qc_data.specs.declared.data.Json.{Json}
 use Rattle.qc_data.specs.declared.data.Json.TheOpen.{Json-F}
 use Rattle.qc_data.specs.declared.data.Json.TheFolds.{fold-Json}
@@ -42,13 +42,16 @@ two_of (a ∷ b ∷ c ∷ rs) = None
 -- user names, with a type each
 abbrev pub row_of : List (List ℕ × Said) → Option (List (List ℕ × Ty))
 row_of [] = Some []
-row_of (p ∷ ps) = cond (is_name p.0 && user p.0) (option_and_then (λ t. option_map (λ r. (p.0, t) ∷ r) (row_of ps)) p.1.ty) None
+row_of (p ∷ ps) =
+    cond (is_name p.0 && user p.0) (option_and_then (λ t. option_map (λ r. (p.0, t) ∷ r) (row_of ps)) p.1.ty) None
 
 -- the type that the one member of an object makes, by the member's name
 abbrev pub tagged : List ℕ → Said → Option Ty
 tagged n r =
-    cond (bytes_eq n (codes "bag")) (option_map ty.Coll r.ty) (cond (bytes_eq n (codes "record")) (option_map (ty.Rec Exact) r.row)
-    (cond (bytes_eq n (codes "open")) (option_map (ty.Rec Wide) r.row) (cond (bytes_eq n (codes "either")) (option_map (λ p. ty.Either p.0 p.1) r.two)
+    cond (bytes_eq n (codes "bag")) (option_map ty.Coll r.ty)
+    (cond (bytes_eq n (codes "record")) (option_map (ty.Rec Exact) r.row)
+    (cond (bytes_eq n (codes "open")) (option_map (ty.Rec Wide) r.row)
+    (cond (bytes_eq n (codes "either")) (option_map (λ p. ty.Either p.0 p.1) r.two)
     (cond (bytes_eq n (codes "class")) (option_map ty.Brand r.class) None))))
 
 -- an object of one member

@@ -26,6 +26,7 @@ data_step (Json-F.Object ps) = object (members_of ps)
 abbrev pub data_of : Json → Data
 data_of = fold-Json Data data_step
 
--- its compact text: no space, and the names of objects in the order that they have in the tree, which rise in those that code holds
+-- its compact text: no space, and the names of objects in the order that they have in the tree, which rise in those
+-- that code holds
 abbrev pub text_of : Json → List ℕ
 text_of j = compact_text (data_of j)

@@ -1,12 +1,13 @@
 // The texts of types.
 ghost use Rattle.std.specs.Prelude.{◌≡◌, [], ◌∷◌, IfOk, map};
-ghost use Rattle.qc_data.specs.Rising.{on_value};
+ghost use Rattle.qc_containers.specs.Rising.{on_value};
 ghost use Rattle.qc_data.specs.declared.data.Json.TheVariants.{Text, Array, Object};
 ghost use Rattle.qc_schema.specs.TypeText.{one, tree_of, width_name};
 ghost use Rattle.qc_schema.specs.Writing.{text_of};
 
 use crate::writing::json_text;
-use qc_data::{Chars, Json, Jsons, Members, Memory};
+use qc_containers::{Chars, Memory};
+use qc_data::{Json, Jsons, Members};
 use qc_types::{Row, Ty, Width};
 use std::alloc::Global;
 

@@ -1,5 +1,5 @@
 // Why bytes are no input, or no schema.
-use qc_data::Memory;
+use qc_containers::Memory;
 use thiserror::Error;
 
 /// Why bytes are no input.

@@ -12,7 +12,8 @@ use std::alloc::Global;
 /// The world of the schema that the bytes of an input mean. `BadInput` exactly where they mean none.
 pub fn read_input(alloc: Global, schema: &Schema, bytes: &[u8]) -> Result<World, InputFault>
     ensures ok { IfOk result (λ world. MeansWorld bytes.now schema.now world.datum) }
-    ensures schema { IfOk result (λ world. (world.classes ≡ schema.now.classes) × (world.globals ≡ schema.now.globals)) }
+    ensures schema { IfOk result
+        (λ world. (world.classes ≡ schema.now.classes) × (world.globals ≡ schema.now.globals)) }
     ensures bad { result ≡ Err InputFault.BadInput → (d : Datum) → ¬ MeansWorld bytes.now schema.now d }
 {
     let tree = read_json(alloc, bytes)?;

@@ -5,7 +5,8 @@ ghost use Rattle.qc_data.specs.declared.data.Json.{Json};
 ghost use Rattle.qc_schema.specs.Reading.{of_data, of_items, of_members, Means};
 
 use crate::faults::InputFault;
-use qc_data::{Chars, Json as Tree, Jsons, Members, Memory};
+use qc_containers::{Chars, Memory};
+use qc_data::{Json as Tree, Jsons, Members};
 use serde_json::{Map, Value};
 use std::alloc::Global;
 

@@ -2,12 +2,14 @@
 ghost use Rattle.std.specs.Prelude.{◌≡◌, ◌&&◌, IfOk, codes, option_map};
 ghost use Rattle.std.specs.Str.{bytes_eq};
 ghost use Rattle.qc_types.specs.Schemas.{SchemaOf};
-ghost use Rattle.qc_schema.specs.SchemaFile.{MeansSchema, schema_of, file_parts, from_parts, schema_from, classes_of, each_class, class_of, class_parts, class_from, parent_of, is_one};
+ghost use Rattle.qc_schema.specs.SchemaFile.{MeansSchema, schema_of, file_parts, from_parts, schema_from, classes_of};
+ghost use Rattle.qc_schema.specs.SchemaFile.{each_class, class_of, class_parts, class_from, parent_of, is_one};
 
 use crate::faults::{InputFault, SchemaFault};
 use crate::reading::read_json;
 use crate::typing::{read_class, read_row, read_type};
-use qc_data::{Json, Jsons, Members, Memory, Name};
+use qc_containers::{Memory, Name};
+use qc_data::{Json, Jsons, Members};
 use qc_types::{ClassDef, ClassFault, Classes, Row, Schema, Ty};
 use std::alloc::Global;
 

@@ -1,8 +1,8 @@
 // What holds of every JSON tree that code holds.
 ghost use Rattle.std.specs.Prelude.{IsTrue, map, ◌&&◌};
 ghost use Rattle.qc_data.specs.Facts.{all_true, all_values, rise};
-ghost use Rattle.qc_data.specs.Rising.{on_value};
-ghost use Rattle.qc_schema.specs.Sound.{sound};
+ghost use Rattle.qc_containers.specs.Rising.{on_value};
+ghost use Rattle.qc_schema.specs.inner.Sound.{sound};
 
 use qc_data::{Json, Jsons, Members};
 

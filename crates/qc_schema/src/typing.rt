@@ -1,11 +1,12 @@
 // Types from JSON trees.
 ghost use Rattle.std.specs.Prelude.{◌≡◌, ◌&&◌, IfOk, Some, None, cond, map};
-ghost use Rattle.qc_data.specs.Name.{is_name};
-ghost use Rattle.qc_data.specs.Rising.{on_value};
+ghost use Rattle.qc_containers.specs.Name.{is_name};
+ghost use Rattle.qc_containers.specs.Rising.{on_value};
 ghost use Rattle.qc_types.specs.Schemas.{user};
 ghost use Rattle.qc_schema.specs.Typing.{said, row_of, object_of, tagged, atom, name_in, two_of};
 
-use qc_data::{Boxed, Json, Jsons, Members, Memory, Name, NameFault};
+use qc_containers::{Boxed, Memory, Name, NameFault};
+use qc_data::{Json, Jsons, Members};
 use qc_types::{Row, Ty, Width};
 use std::alloc::Global;
 

@@ -5,12 +5,13 @@ ghost use Rattle.serde_json.specs.Events.{SendsValue};
 ghost use Rattle.serde_json.specs.Find.{of_integer};
 ghost use Rattle.serde_json.specs.Read.{max_depth};
 ghost use Rattle.serde_json.specs.View.{items_of};
-ghost use Rattle.qc_data.specs.Rising.{on_value};
+ghost use Rattle.qc_containers.specs.Rising.{on_value};
 ghost use Rattle.qc_schema.specs.Reading.{Means};
 ghost use Rattle.qc_schema.specs.Writing.{data_of, text_of, members_of};
 
 use crate::sound::check_sound;
-use qc_data::{Chars, Json, Jsons, Members, Memory};
+use qc_containers::{Chars, Memory};
+use qc_data::{Json, Jsons, Members};
 use serde::{Described, Serialize, Serializer};
 use serde_json::to_string;
 use std::alloc::Global;
@@ -76,7 +77,8 @@ fn send_integer<S: Serializer>(n: i64, out: &mut S) -> Result<(), S::Error>
 // Sends the array's events.
 #[cycle(send)]
 fn send_items<S: Serializer>(items: &Jsons, out: &mut S) -> Result<(), S::Error>
-    ensures { OnOk result (SendsValue (array (items_of (map data_of items.now))) (S.written out.old) (S.written out.new)) }
+    ensures { OnOk result
+        (SendsValue (array (items_of (map data_of items.now))) (S.written out.old) (S.written out.new)) }
 {
     out.begin_seq(Some(items.len()))?;
     for item in items.as_slice() {
@@ -88,7 +90,9 @@ fn send_items<S: Serializer>(items: &Jsons, out: &mut S) -> Result<(), S::Error>
 // Sends the object's events.
 #[cycle(send)]
 fn send_members<S: Serializer>(members: &Members, out: &mut S) -> Result<(), S::Error>
-    ensures { OnOk result (SendsValue (object (members_of (map (on_value data_of) members.now))) (S.written out.old) (S.written out.new)) }
+    ensures { OnOk result
+        (SendsValue (object (members_of (map (on_value data_of) members.now))) (S.written out.old)
+        (S.written out.new)) }
 {
     out.begin_map(Some(members.len()))?;
     for pair in members.as_slice() {

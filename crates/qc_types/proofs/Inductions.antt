@@ -1,8 +1,8 @@
 -- Induction over data and types: what holds of the parts.
 use Rattle.std.proofs.Common.{◌≡◌, ℕ, List, [], ◌∷◌, map, Option, Some, None, Bool, true, false, cond, ap, subst, rules}
 use Rattle.std.specs.Str.{bytes_eq}
-use Rattle.qc_data.specs.Pairs.{lookup}
-use Rattle.qc_data.specs.Rising.{on_value}
+use Rattle.qc_containers.specs.Pairs.{lookup}
+use Rattle.qc_containers.specs.Rising.{on_value}
 use Rattle.qc_data.specs.declared.data.Datum.{Datum}
 use Rattle.qc_data.specs.declared.data.Datum.TheOpen.{Datum-F}
 use Rattle.qc_data.specs.declared.data.Datum.TheViews.{out-Datum, roll-Datum, the_lemmas}
@@ -20,11 +20,13 @@ abbrev pub AllIn : {A : Type 0} → (A → Type 0) → List (List ℕ × A) → 
 AllIn P [] = Unit {0}
 AllIn P (p ∷ ps) = P p.1 × AllIn P ps
 
-in_cond : {A : Type 0} (P : A → Type 0) (b : Bool) (u a : A) (o : Option A) → P u → (o ≡ Some a → P a) → cond b (Some u) o ≡ Some a → P a
+in_cond : {A : Type 0} (P : A → Type 0) (b : Bool) (u a : A) (o : Option A) → P u → (o ≡ Some a → P a)
+    → cond b (Some u) o ≡ Some a → P a
 in_cond P true u a o h later e = let un : Option _ → _ = λ x. elim x [ Some v ↦ v | None ↦ u ] in subst P (ap un e) h
 in_cond P false u a o h later e = later e
 
-pub found : {A : Type 0} (P : A → Type 0) (ps : List (List ℕ × A)) → AllIn P ps → (n : List ℕ) (a : A) → lookup n ps ≡ Some a → P a
+pub found : {A : Type 0} (P : A → Type 0) (ps : List (List ℕ × A)) → AllIn P ps → (n : List ℕ) (a : A)
+    → lookup n ps ≡ Some a → P a
 found P [] h n a e = absurd (cc)
 found P (p ∷ ps) h n a e = in_cond P (bytes_eq p.0 n) p.1 a (lookup n ps) h.0 (λ k. found P ps h.1 n a k) e
 
@@ -44,7 +46,8 @@ row_held : {A : Type 0} (P : A → Type 0) (ws : List (List ℕ × ((a : A) × P
 row_held P [] = tt
 row_held P (w ∷ ws) = (w.1.1, row_held P ws)
 
-held : (P : Datum → Type 0) (w : Datum-F ((d : Datum) × P d)) → Held P (map-Datum ((d : Datum) × P d) Datum (λ e. e.0) w)
+held : (P : Datum → Type 0) (w : Datum-F ((d : Datum) × P d))
+    → Held P (map-Datum ((d : Datum) × P d) Datum (λ e. e.0) w)
 held P (Datum-F.Coll ws) = all_held P ws
 held P (Datum-F.Rec ws) = row_held P ws
 held P (Datum-F.Left w) = w.1

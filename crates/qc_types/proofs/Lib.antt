@@ -9,5 +9,9 @@ mod Halves
 pub mod JoinKinds
 mod NameLaws
 mod ListLaws
+pub mod PutLaws
+mod Places
+mod Paths
+mod Indexing
 pub mod ClassLaws
 pub mod WorldLaws

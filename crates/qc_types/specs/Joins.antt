@@ -1,6 +1,6 @@
 -- The join of two types: a type above both, where there is one.
 use Rattle.std.specs.Prelude.{ℕ, Bool, true, ◌&&◌, List, [], ◌∷◌, Option, Some, None, option_map, IsTrue}
-use Rattle.qc_data.specs.Pairs.{lookup}
+use Rattle.qc_containers.specs.Pairs.{lookup}
 use Rattle.qc_types.specs.declared.ty.Width.{Width}
 use Rattle.qc_types.specs.declared.ty.Width.TheVariants.{Exact, Wide}
 use Rattle.qc_types.specs.declared.ty.Ty.{Ty}
@@ -24,7 +24,8 @@ put_some n None r = r
 put_some n (Some t) r = (n, t) ∷ r
 
 -- those of the names that both have, with types that join
-abbrev pub shared : {A B : Type 0} → (A → B → Option Ty) → List (List ℕ) → List (List ℕ × A) → List (List ℕ × B) → List (List ℕ × Ty)
+abbrev pub shared : {A B : Type 0} → (A → B → Option Ty) → List (List ℕ) → List (List ℕ × A) → List (List ℕ × B)
+    → List (List ℕ × Ty)
 shared j [] ps qs = []
 shared j (n ∷ ns) ps qs = put_some n (joined j (lookup n ps) (lookup n qs)) (shared j ns ps qs)
 
@@ -33,7 +34,8 @@ abbrev pub width_of : Width → Width → Bool → Width
 width_of Exact Exact true = Exact
 width_of _ _ _ = Wide
 
--- the record of the row r that two records with names ns and ms share: Exact where both are, with the same names, which all join
+-- the record of the row r that two records with names ns and ms share: Exact where both are, with the same names, which
+-- all join
 abbrev pub row_join : List (List ℕ) → List (List ℕ) → Width → Width → List (List ℕ × Ty) → Ty
 row_join ns ms w v r = ty.Rec (width_of w v (same_names ns ms && same_names (names r) ns)) r
 

@@ -1,7 +1,7 @@
 -- Rows of named fields, one against another, by look-ups.
 use Rattle.std.specs.Prelude.{ℕ, Bool, true, false, ◌&&◌, List, [], ◌∷◌, Option, Some, None}
 use Rattle.std.specs.Str.{bytes_eq}
-use Rattle.qc_data.specs.Pairs.{lookup}
+use Rattle.qc_containers.specs.Pairs.{lookup}
 use Rattle.qc_types.specs.declared.ty.Width.{Width}
 use Rattle.qc_types.specs.declared.ty.Width.TheVariants.{Exact, Wide}
 
@@ -36,13 +36,3 @@ has_fields r fs ts = all_in (λ n. at_field r (lookup n fs) (lookup n ts)) (name
 abbrev pub fields_in : {A B : Type 0} → Width → (A → B → Bool) → List (List ℕ × A) → List (List ℕ × B) → Bool
 fields_in Exact r fs ts = same_names (names fs) (names ts) && has_fields r fs ts
 fields_in Wide r fs ts = has_fields r fs ts
-
--- what a record has at a name against what is wanted there, where both are there
-abbrev pub at_shared : {A B : Type 0} → (A → B → Bool) → Option A → Option B → Bool
-at_shared r None y = true
-at_shared r (Some d) None = true
-at_shared r (Some d) (Some t) = r d t
-
--- each value whose name is wanted is one that r takes
-abbrev pub has_shared : {A B : Type 0} → (A → B → Bool) → List (List ℕ × A) → List (List ℕ × B) → Bool
-has_shared r fs ts = all_in (λ n. at_shared r (lookup n fs) (lookup n ts)) (names fs)

@@ -1,7 +1,7 @@
 -- Which lists of classes are good, which globals a schema has, and which data are its worlds.
 use Rattle.std.specs.Prelude.{ℕ, Bool, true, false, not, ◌&&◌, ◌==◌, List, [], ◌∷◌, Option, Some, None}
 use Rattle.qc_data.specs.Facts.{all_true, all_values, rising, within64}
-use Rattle.qc_data.specs.Pairs.{lookup}
+use Rattle.qc_containers.specs.Pairs.{lookup}
 use Rattle.qc_data.specs.declared.data.Datum.{Datum}
 use Rattle.qc_data.specs.declared.data.Datum.TheOpen.{Datum-F}
 use Rattle.qc_data.specs.declared.data.Datum.TheViews.{out-Datum}
@@ -84,7 +84,8 @@ user_step x = true
 abbrev pub user_named : Datum → Bool
 user_named = fold-Datum Bool user_step
 
--- a datum that fits the record of the globals, has user names alone, in rising order in each record, and integers of 64 bits
+-- a datum that fits the record of the globals, has user names alone, in rising order in each record, and integers of 64
+-- bits
 abbrev pub is_world : Defs → List (List ℕ × Ty) → Datum → Bool
 is_world c gs d = fits c d (ty.Rec Exact gs) && (user_named d && (rising d && within64 d))
 

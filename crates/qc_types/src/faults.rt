@@ -1,5 +1,5 @@
 // Why there are no such classes, no such world, or no type.
-use qc_data::Memory;
+use qc_containers::Memory;
 use thiserror::Error;
 
 /// Why a query has no type.

@@ -1,16 +1,16 @@
 // Joins.
 ghost use Rattle.std.specs.Prelude.{◌≡◌, [], ◌++◌, IfOk, OnOk, option_map};
-ghost use Rattle.qc_data.specs.Rising.{Rising};
+ghost use Rattle.qc_containers.specs.Rising.{Rising};
 ghost use Rattle.qc_types.specs.Classes.{common};
 ghost use Rattle.qc_types.specs.Joins.{AboveBoth, join, put_some, shared, width_of};
 ghost use Rattle.qc_types.specs.Rows.{names};
 ghost use Rattle.qc_types.specs.declared.ty.Ty.TheVariants as ty;
 
-use crate::chains::common;
 use crate::classes::Classes;
+use crate::index::ClassIndex;
 use crate::rows::{is_same_names, value_of};
-use crate::ty::{ClassDef, Row, Ty, Width, copy_ty};
-use qc_data::{Boxed, Memory, Name};
+use crate::ty::{Row, Ty, Width, copy_ty};
+use qc_containers::{Boxed, Memory, Name};
 use std::alloc::Global;
 
 /// A type above both, where there is one.
@@ -18,14 +18,14 @@ pub fn join(alloc: Global, classes: &Classes, a: &Ty, b: &Ty) -> Result<Option<T
     ensures value { IfOk result (λ made. made ≡ join classes.now a.now b.now) }
     ensures above { IfOk result (λ made. AboveBoth classes.now a.now b.now made) }
 {
-    join_of(alloc, classes.last_first(), a, b)
+    join_of(alloc, classes.index(), a, b)
 }
 
 // The same over a list of classes, by the parts of `a`.
 #[cycle(join)]
 #[tactic(auto, using(crate::proofs::JoinKinds::by_layer))]
-fn join_of(alloc: Global, defs: &[ClassDef], a: &Ty, b: &Ty) -> Result<Option<Ty>, Memory>
-    ensures { IfOk result (λ made. made ≡ join defs.now a.now b.now) }
+fn join_of(alloc: Global, index: &ClassIndex, a: &Ty, b: &Ty) -> Result<Option<Ty>, Memory>
+    ensures { IfOk result (λ made. made ≡ join index.now a.now b.now) }
 {
     match (a, b) {
         (Ty::Bottom, _) => Ok(Some(copy_ty(alloc, b)?)),
@@ -34,21 +34,21 @@ fn join_of(alloc: Global, defs: &[ClassDef], a: &Ty, b: &Ty) -> Result<Option<Ty
         (Ty::Bool, Ty::Bool) => Ok(Some(Ty::Bool)),
         (Ty::Int, Ty::Int) => Ok(Some(Ty::Int)),
         (Ty::Text, Ty::Text) => Ok(Some(Ty::Text)),
-        (Ty::Coll(t), Ty::Coll(u)) => match join_of(alloc, defs, t.get(), u.get())? {
+        (Ty::Coll(t), Ty::Coll(u)) => match join_of(alloc, index, t.get(), u.get())? {
             Some(item) => Ok(Some(Ty::Coll(Boxed::of(alloc, item)?))),
             None => Ok(None),
         },
         (Ty::Rec(w, ts), Ty::Rec(v, us)) => {
-            let row = join_rows(alloc, defs, ts, us)?;
+            let row = join_rows(alloc, index, ts, us)?;
             let same = is_same_names(ts, us) && is_same_names(&row, ts);
             Ok(Some(Ty::Rec(width_of(*w, *v, same), row)))
         }
         (Ty::Either(t, u), Ty::Either(v, w)) => {
-            let left = match join_of(alloc, defs, t.get(), v.get())? {
+            let left = match join_of(alloc, index, t.get(), v.get())? {
                 Some(left) => left,
                 None => return Ok(None),
             };
-            match join_of(alloc, defs, u.get(), w.get())? {
+            match join_of(alloc, index, u.get(), w.get())? {
                 Some(right) => Ok(Some(Ty::Either(
                     Boxed::of(alloc, left)?,
                     Boxed::of(alloc, right)?,
@@ -56,7 +56,7 @@ fn join_of(alloc: Global, defs: &[ClassDef], a: &Ty, b: &Ty) -> Result<Option<Ty
                 None => Ok(None),
             }
         }
-        (Ty::Brand(n), Ty::Brand(m)) => join_brands(alloc, defs, n, m),
+        (Ty::Brand(n), Ty::Brand(m)) => join_brands(alloc, index, n, m),
         _ => Ok(None),
     }
 }
@@ -72,10 +72,10 @@ fn width_of(a: Width, b: Width, same: bool) -> Width
 }
 
 // The type of the first class that is above both.
-fn join_brands(alloc: Global, defs: &[ClassDef], a: &Name, b: &Name) -> Result<Option<Ty>, Memory>
-    ensures { IfOk result (λ made. made ≡ option_map (λ name. ty.Brand name) (common defs.now a.now b.now)) }
+fn join_brands(alloc: Global, index: &ClassIndex, a: &Name, b: &Name) -> Result<Option<Ty>, Memory>
+    ensures { IfOk result (λ made. made ≡ option_map (λ name. ty.Brand name) (common index.now a.now b.now)) }
 {
-    match common(defs, a, b) {
+    match index.common(a, b) {
         Some(name) => Ok(Some(Ty::Brand(name.copy(alloc)?))),
         None => Ok(None),
     }
@@ -83,14 +83,14 @@ fn join_brands(alloc: Global, defs: &[ClassDef], a: &Name, b: &Name) -> Result<O
 
 // The fields that both have, with types that join.
 #[cycle(join)]
-fn join_rows(alloc: Global, defs: &[ClassDef], ts: &Row, us: &Row) -> Result<Row, Memory>
-    ensures { IfOk result (λ made. made ≡ shared (join defs.now) (names ts.now) ts.now us.now) }
+fn join_rows(alloc: Global, index: &ClassIndex, ts: &Row, us: &Row) -> Result<Row, Memory>
+    ensures { IfOk result (λ made. made ≡ shared (join index.now) (names ts.now) ts.now us.now) }
 {
     let mut row = Row::new(alloc);
     for pair in ts.as_slice() {
         match value_of(us, pair.0.as_str()) {
             Some(u) => {
-                let made = join_of(alloc, defs, &pair.1, u)?;
+                let made = join_of(alloc, index, &pair.1, u)?;
                 add_some(alloc, &mut row, &pair.0, made)?;
             }
             None => {}

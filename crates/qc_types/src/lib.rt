@@ -1,12 +1,12 @@
 //! Types of data, classes, schemas and worlds: subtyping, what fits a type, and joins.
 #![tactic(auto)]
 
-mod chains;
 mod classes;
 mod compare;
 mod conforming;
 mod faults;
 mod goodness;
+mod index;
 mod joining;
 mod naming;
 mod rows;

@@ -1,10 +1,11 @@
 // User names.
 ghost use Rattle.std.specs.Prelude.{◌≡◌, map};
 ghost use Rattle.qc_data.specs.Facts.{all_true};
-ghost use Rattle.qc_data.specs.Rising.{on_value};
+ghost use Rattle.qc_containers.specs.Rising.{on_value};
 ghost use Rattle.qc_types.specs.Schemas.{user, user_fields, user_named};
 
-use qc_data::{Datum, Fields, Items, Name};
+use qc_containers::Name;
+use qc_data::{Datum, Fields, Items};
 
 // Whether a user may give the name.
 pub(crate) fn is_user(name: &Name) -> bool

@@ -1,10 +1,10 @@
 // Rows by their names, which rise.
 ghost use Rattle.std.specs.Prelude.{◌≡◌, is_some};
 ghost use Rattle.std.specs.Option.{option_copied};
-ghost use Rattle.qc_data.specs.Pairs.{lookup};
+ghost use Rattle.qc_containers.specs.Pairs.{lookup};
 ghost use Rattle.qc_types.specs.Rows.{all_in, names, same_names};
 
-use qc_data::NameMap;
+use qc_containers::NameMap;
 use std::cmp::Ordering;
 
 // Whether two rows have the same names.

@@ -18,7 +18,7 @@ pub struct Schema {
 impl Model for Schema {
     ghost use Rattle.std.specs.Prelude.{IsTrue};
     ghost use Rattle.qc_types.specs.Schemas.{SchemaOf, good_classes, good_globals};
-    ghost use Rattle.qc_types.specs.Coding.{schema_code};
+    ghost use Rattle.qc_types.specs.inner.Coding.{schema_code};
 
     ghost Value = { SchemaOf };
 
@@ -48,7 +48,7 @@ impl Schema {
         ensures err { IfErr result (λ _. good_globals classes globals ≡ false) }
         ensures back { IfErr result (λ pair. pair ≡ (classes, globals)) }
     {
-        if !is_good_globals(classes.last_first(), &globals) {
+        if !is_good_globals(classes.index(), &globals) {
             return Err((classes, globals));
         }
         Ok(Schema { classes, globals })

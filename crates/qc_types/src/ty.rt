@@ -1,7 +1,7 @@
 // Types, and the classes that they name.
 ghost use Rattle.std.specs.Prelude.{◌≡◌, IfOk};
 
-use qc_data::{Boxed, Memory, Name, NameMap};
+use qc_containers::{Boxed, Memory, Name, NameMap, Share};
 use std::alloc::Global;
 
 /// Whether a record has further fields than those that its type names.
@@ -50,8 +50,7 @@ pub struct ClassDef {
     pub shape: Ty,
 }
 
-/// A copy: the same type.
-#[cycle(copy)]
+/// A copy: the same type, whose parts the two share.
 pub fn copy_ty(alloc: Global, t: &Ty) -> Result<Ty, Memory>
     ensures { IfOk result (λ made. made ≡ t.now) }
 {
@@ -61,33 +60,41 @@ pub fn copy_ty(alloc: Global, t: &Ty) -> Result<Ty, Memory>
         Ty::Bool => Ok(Ty::Bool),
         Ty::Int => Ok(Ty::Int),
         Ty::Text => Ok(Ty::Text),
-        Ty::Coll(item) => Ok(Ty::Coll(copy_boxed(alloc, item)?)),
-        Ty::Rec(width, row) => Ok(Ty::Rec(*width, copy_row(alloc, row)?)),
+        Ty::Coll(item) => Ok(Ty::Coll(item.share(alloc)?)),
+        Ty::Rec(width, row) => Ok(Ty::Rec(*width, row.share(alloc)?)),
         Ty::Either(left, right) => {
-            let left = copy_boxed(alloc, left)?;
-            Ok(Ty::Either(left, copy_boxed(alloc, right)?))
+            let left = left.share(alloc)?;
+            Ok(Ty::Either(left, right.share(alloc)?))
         }
-        Ty::Brand(name) => Ok(Ty::Brand(name.copy(alloc)?)),
+        Ty::Brand(name) => Ok(Ty::Brand(name.share(alloc)?)),
     }
 }
 
-#[cycle(copy)]
-fn copy_boxed(alloc: Global, inner: &Boxed<Ty>) -> Result<Boxed<Ty>, Memory>
-    ensures { IfOk result (λ made. made ≡ inner.now) }
-{
-    let inner = copy_ty(alloc, inner.get())?;
-    Boxed::of(alloc, inner)
+impl Share for Ty {
+    fn share(&self, alloc: Global) -> Result<Ty, Memory> {
+        copy_ty(alloc, self)
+    }
 }
 
-/// A copy: the same fields.
-#[cycle(copy)]
+impl Share for ClassDef {
+    fn share(&self, alloc: Global) -> Result<ClassDef, Memory> {
+        let name = self.name.share(alloc)?;
+        let parent = match &self.parent {
+            Some(parent) => Some(parent.share(alloc)?),
+            None => None,
+        };
+        let shape = self.shape.share(alloc)?;
+        Ok(ClassDef {
+            name,
+            parent,
+            shape,
+        })
+    }
+}
+
+/// A copy: the same fields, whose types the two share.
 pub fn copy_row(alloc: Global, row: &Row) -> Result<Row, Memory>
     ensures { IfOk result (λ made. made ≡ row.now) }
 {
-    let mut copies = Row::new(alloc);
-    for pair in row.as_slice() {
-        let name = pair.0.copy(alloc)?;
-        copies.add(name, copy_ty(alloc, &pair.1)?)?;
-    }
-    Ok(copies)
+    row.share(alloc)
 }

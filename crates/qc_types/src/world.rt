@@ -6,14 +6,17 @@ ghost use Rattle.qc_types.specs.Schemas.{global, good_classes, good_globals, is_
 use crate::classes::Classes;
 use crate::conforming::is_record_of;
 use crate::faults::WorldFault;
+use crate::index::ClassIndex;
 use crate::naming::is_user_named;
 use crate::schema::Schema;
-use crate::ty::{ClassDef, Row, copy_row};
+use crate::ty::{Row, copy_row};
+use qc_containers::Share;
 use qc_data::{Datum, held};
 use std::alloc::Global;
 use std::marker::Model;
 
-/// The values of a schema's globals. Clauses see the schema's classes, the globals' types, and the record of the values.
+/// The values of a schema's globals. Clauses see the schema's classes, the globals' types, and the record of the
+/// values.
 #[derive(Drop)]
 pub struct World {
     classes: Classes,
@@ -24,7 +27,7 @@ pub struct World {
 impl Model for World {
     ghost use Rattle.std.specs.Prelude.{IsTrue};
     ghost use Rattle.qc_types.specs.Schemas.{WorldOf, good_globals, is_world};
-    ghost use Rattle.qc_types.specs.Coding.{world_code};
+    ghost use Rattle.qc_types.specs.inner.Coding.{world_code};
 
     ghost Value = { WorldOf };
 
@@ -32,7 +35,8 @@ impl Model for World {
 
     ghost view = { λ world. record { classes = world.classes; globals = world.globals; datum = world.datum } };
 
-    ghost invariant = { λ world. IsTrue (good_globals world.classes world.globals) × IsTrue (is_world world.classes world.globals world.datum) };
+    ghost invariant = { λ world. IsTrue (good_globals world.classes world.globals)
+        × IsTrue (is_world world.classes world.globals world.datum) };
 }
 
 impl World {
@@ -40,15 +44,16 @@ impl World {
     /// where the datum does not fit the record of exactly the globals, or holds anywhere the name of a field or of a
     /// class that is no user name.
     pub fn of(alloc: Global, schema: &Schema, d: Datum) -> Result<World, WorldFault>
-        ensures ok { IfOk result (λ world. world ≡ record { classes = schema.now.classes; globals = schema.now.globals; datum = d }) }
+        ensures ok { IfOk result
+            (λ world. world ≡ record { classes = schema.now.classes; globals = schema.now.globals; datum = d }) }
         ensures world { IfOk result (λ _. IsTrue (is_world schema.now.classes schema.now.globals d)) }
         ensures bad { result ≡ Err WorldFault.NotWorld → is_world schema.now.classes schema.now.globals d ≡ false }
         ensures exact { is_world schema.now.classes schema.now.globals d ≡ false → result ≡ Err WorldFault.NotWorld }
     {
-        if !is_world(schema.classes().last_first(), schema.globals(), &d) {
+        if !is_world(schema.classes().index(), schema.globals(), &d) {
             return Err(WorldFault::NotWorld);
         }
-        let classes = schema.classes().copy(alloc)?;
+        let classes = schema.classes().share(alloc)?;
         let globals = copy_row(alloc, schema.globals())?;
         Ok(World {
             classes,
@@ -95,9 +100,9 @@ impl World {
 }
 
 // Whether the datum is a world of classes and globals. That its integers have 64 bits is known of every datum.
-fn is_world(defs: &[ClassDef], globals: &Row, d: &Datum) -> bool
-    ensures { result ≡ is_world defs.now globals.now d.now }
+fn is_world(index: &ClassIndex, globals: &Row, d: &Datum) -> bool
+    ensures { result ≡ is_world index.now globals.now d.now }
 {
     held(d);
-    is_record_of(defs, d, globals) && is_user_named(d)
+    is_record_of(index, d, globals) && is_user_named(d)
 }

@@ -17,15 +17,21 @@ use Rattle.qc_typing.proofs.BinarySound.{binary_sound}
 
 module _ (c : Defs) (g : IsTrue (good_classes c)) where
   pub sound_unary : (op : Unary) (a : Ty) → IsSound1 c op a (unary_type c op a)
-  sound_unary op a d h = typed_all c (unary_type c op a) (λ m. unary m c op d) (unary_sound c g any_size op a d h) (λ low high. agrees_unary low high c op d)
+  sound_unary op a d h =
+      typed_all c (unary_type c op a) (λ m. unary m c op d) (unary_sound c g any_size op a d h)
+      (λ low high. agrees_unary low high c op d)
 
   pub sound_binary : (op : Binary) (a b : Ty) → IsSound2 c op a b (binary_type c op a b)
-  sound_binary op a b d e h k = typed_all c (binary_type c op a b) (λ m. binary m op d e) (binary_sound c g any_size op a b d e h k) (λ low high. agrees_binary low high op d e)
+  sound_binary op a b d e h k =
+      typed_all c (binary_type c op a b) (λ m. binary m op d e) (binary_sound c g any_size op a b d e h k)
+      (λ low high. agrees_binary low high op d e)
 
-  pub answered_unary : {E : Type 0} (op : Unary) (a : Ty) (r : Result (Option Ty) E) → IfOk r (λ t. t ≡ unary_type c op a) → IfOk r (IsSound1 c op a)
+  pub answered_unary : {E : Type 0} (op : Unary) (a : Ty) (r : Result (Option Ty) E)
+      → IfOk r (λ t. t ≡ unary_type c op a) → IfOk r (IsSound1 c op a)
   answered_unary op a (Ok t) e = subst (IsSound1 c op a) (sym e) (sound_unary op a)
   answered_unary op a (Err x) e = tt
 
-  pub answered_binary : {E : Type 0} (op : Binary) (a b : Ty) (r : Result (Option Ty) E) → IfOk r (λ t. t ≡ binary_type c op a b) → IfOk r (IsSound2 c op a b)
+  pub answered_binary : {E : Type 0} (op : Binary) (a b : Ty) (r : Result (Option Ty) E)
+      → IfOk r (λ t. t ≡ binary_type c op a b) → IfOk r (IsSound2 c op a b)
   answered_binary op a b (Ok t) e = subst (IsSound2 c op a b) (sym e) (sound_binary op a b)
   answered_binary op a b (Err x) e = tt

@@ -1,7 +1,7 @@
 -- Fields by name: those at names, and those of two records.
 use Rattle.std.specs.Prelude.{ℕ, Bool, true, false, not, ◌&&◌, ◌||◌, cond, List, [], ◌∷◌, Option, Some, None, is_some}
 use Rattle.std.specs.List.{list_all}
-use Rattle.qc_data.specs.Pairs.{lookup, put}
+use Rattle.qc_containers.specs.Pairs.{lookup, put}
 use Rattle.qc_types.specs.declared.ty.Width.{Width}
 use Rattle.qc_types.specs.declared.ty.Width.TheVariants.{Exact, Wide}
 use Rattle.qc_types.specs.declared.ty.Ty.{Ty}
@@ -75,13 +75,16 @@ ordered_at c keys _ = false
 
 abbrev pub grouped_at : List ℕ → List (List ℕ) → Ty → Ty-F Ty → Option Ty
 grouped_at g names t Ty-F.Bottom = when (not (is_among g names)) (ty.Coll ty.Bottom)
-grouped_at g names t (Ty-F.Rec w ts) = when (not (is_among g names) && has_names names ts) (ty.Coll (ty.Rec Exact (put g (ty.Coll t) (chosen names ts))))
+grouped_at g names t (Ty-F.Rec w ts) =
+    when (not (is_among g names) && has_names names ts) (ty.Coll (ty.Rec Exact (put g (ty.Coll t) (chosen names ts))))
 grouped_at g names t _ = None
 
--- rows of the type can be ordered by the keys: there are none, or each key is a field of integers, texts or truth values
+-- rows of the type can be ordered by the keys: there are none, or each key is a field of integers, texts or truth
+-- values
 abbrev pub is_ordered_by : Defs → List (List ℕ × Bool) → Ty → Bool
 is_ordered_by c keys t = ordered_at c keys (out-Ty t)
 
--- the type of groups of rows of the type: the fields at the names, and the rows that have them at g, which is another name
+-- the type of groups of rows of the type: the fields at the names, and the rows that have them at g, which is another
+-- name
 abbrev pub groups_of : List ℕ → List (List ℕ) → Ty → Option Ty
 groups_of g names t = grouped_at g names t (out-Ty t)

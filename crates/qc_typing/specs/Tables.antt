@@ -1,6 +1,7 @@
--- The types that operators give. Each line names what an operand is below, and the type; an operand of no datum comes first.
+-- The types that operators give. Each line names what an operand is below, and the type; an operand of no datum comes
+-- first.
 use Rattle.std.specs.Prelude.{Bool, ◌&&◌, ◌||◌, cond, [], ◌∷◌, Option, Some, option_map, option_and_then, is_some}
-use Rattle.qc_data.specs.Pairs.{lookup}
+use Rattle.qc_containers.specs.Pairs.{lookup}
 use Rattle.qc_types.specs.declared.ty.Width.TheVariants.{Exact}
 use Rattle.qc_types.specs.declared.ty.Ty.{Ty}
 use Rattle.qc_types.specs.declared.ty.Ty.TheVariants as ty
@@ -42,12 +43,14 @@ operand_type c one.Distinct a = option_map (λ t. ty.Coll t) (members a)
 operand_type c one.Single a = Some (ty.Coll a)
 operand_type c (one.Rec name) a = Some (ty.Rec Exact ((name, a) ∷ []))
 operand_type c (one.Dot name) a = option_and_then (λ r. lookup name r.1) (record_parts a)
-operand_type c (one.Project names) a = option_and_then (λ r. when (has_names names r.1) (ty.Rec Exact (chosen names r.1))) (record_parts a)
+operand_type c (one.Project names) a =
+    option_and_then (λ r. when (has_names names r.1) (ty.Rec Exact (chosen names r.1))) (record_parts a)
 operand_type c one.Left a = Some (ty.Either a ty.Bottom)
 operand_type c one.Right a = Some (ty.Either ty.Bottom a)
 operand_type c (one.Brand name) a = option_and_then (λ t. when (sub c a t) (ty.Brand name)) (shape c name)
 operand_type c one.Unbrand a = option_and_then (shape c) (own_class a)
-operand_type c (one.Cast name) a = option_and_then (λ b. when (listed c name) (ty.Either (ty.Brand name) ty.Unit)) (own_class a)
+operand_type c (one.Cast name) a =
+    option_and_then (λ b. when (listed c name) (ty.Either (ty.Brand name) ty.Unit)) (own_class a)
 operand_type c (one.Order keys) a = option_and_then (λ t. when (is_ordered_by c keys t) (ty.Coll t)) (members a)
 operand_type c (one.Group g names) a = option_and_then (groups_of g names) (members a)
 operand_type c (one.Like pattern) a = when (sub c a ty.Text) ty.Bool

@@ -18,7 +18,9 @@ pub record HasType (c : Defs) (d : Datum) (t : Ty) : Type 0 where
 -- where there is a type, a value of it at any size, and within bounds the same value or Range
 abbrev pub IsTyped : Defs → Option Ty → (Mode → Outcome Datum) → Type 0
 IsTyped c None o = Unit {0}
-IsTyped c (Some t) o = (v : Datum) × HasType c v t × (o any_size ≡ Value v) × ((low high : ℤ) → (o (within low high) ≡ Value v) ⊎ (o (within low high) ≡ Halts Range))
+IsTyped c (Some t) o =
+    (v : Datum) × HasType c v t × (o any_size ≡ Value v)
+    × ((low high : ℤ) → (o (within low high) ≡ Value v) ⊎ (o (within low high) ≡ Halts Range))
 
 -- the type is right for each operand of the operand's type
 abbrev pub IsSound1 : Defs → Unary → Ty → Option Ty → Type 0

@@ -5,7 +5,7 @@ ghost use Rattle.qc_types.specs.declared.ty.Ty.TheVariants as ty;
 ghost use Rattle.qc_typing.specs.Kinds.{bag_above, members, on_members, when};
 
 use crate::kinds::{coll_of, either_of, members_of, when};
-use qc_data::Memory;
+use qc_containers::Memory;
 use qc_types::{Classes, Ty, copy_ty, join};
 use std::alloc::Global;
 
@@ -68,7 +68,8 @@ pub(crate) fn union_type(
     a: &Ty,
     b: &Ty,
 ) -> Result<Option<Ty>, Memory>
-    ensures { IfOk result (λ made. made ≡ on_members (λ t u. option_map (λ v. ty.Coll v) (join classes.now t u)) a.now b.now) }
+    ensures { IfOk result
+        (λ made. made ≡ on_members (λ t u. option_map (λ v. ty.Coll v) (join classes.now t u)) a.now b.now) }
 {
     let (Some(item), Some(other)) = (members_of(a), members_of(b)) else {
         return Ok(None);
@@ -86,7 +87,8 @@ pub(crate) fn kept_type(
     a: &Ty,
     b: &Ty,
 ) -> Result<Option<Ty>, Memory>
-    ensures { IfOk result (λ made. made ≡ on_members (λ t u. when (is_some (join classes.now t u)) (ty.Coll t)) a.now b.now) }
+    ensures { IfOk result
+        (λ made. made ≡ on_members (λ t u. when (is_some (join classes.now t u)) (ty.Coll t)) a.now b.now) }
 {
     let (Some(item), Some(other)) = (members_of(a), members_of(b)) else {
         return Ok(None);
@@ -102,7 +104,8 @@ pub(crate) fn member_type(
     a: &Ty,
     b: &Ty,
 ) -> Result<Option<Ty>, Memory>
-    ensures { IfOk result (λ made. made ≡ option_and_then (λ u. when (is_some (join classes.now a.now u)) ty.Bool) (members b.now)) }
+    ensures { IfOk result
+        (λ made. made ≡ option_and_then (λ u. when (is_some (join classes.now a.now u)) ty.Bool) (members b.now)) }
 {
     match members_of(b) {
         Some(item) => same_type(alloc, classes, a, item),

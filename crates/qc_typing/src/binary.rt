@@ -8,13 +8,14 @@ ghost use Rattle.qc_typing.specs.Typed.{IsSound2};
 use crate::bags::{kept_type, member_type, same_type, union_type};
 use crate::kinds::{both_below, is_bottom, when};
 use crate::records::{cat_types, merge_types};
-use qc_data::Memory;
+use qc_containers::Memory;
 use qc_ops::Binary;
 use qc_types::{Classes, Ty};
 use std::alloc::Global;
 
-/// The type that the operator gives on operands of the types, and `None` exactly where it gives none. Of each two values of
-/// the operands' types the operator makes, at any size, a value of the type that it gives, and within bounds the same or Range.
+/// The type that the operator gives on operands of the types, and `None` exactly where it gives none. Of each two
+/// values of the operands' types the operator makes, at any size, a value of the type that it gives, and within
+/// bounds the same or Range.
 pub fn type2(
     alloc: Global,
     classes: &Classes,
@@ -85,7 +86,8 @@ fn when_both(classes: &Classes, a: &Ty, b: &Ty, operand: &Ty, t: Ty) -> Option<T
 
 // Truth values, where both are integers or both texts.
 fn compared_type(classes: &Classes, a: &Ty, b: &Ty) -> Option<Ty>
-    ensures { result ≡ when (both_below classes.now a.now b.now ty.Int || both_below classes.now a.now b.now ty.Text) ty.Bool }
+    ensures { result
+        ≡ when (both_below classes.now a.now b.now ty.Int || both_below classes.now a.now b.now ty.Text) ty.Bool }
 {
     let ints = both_below(classes, a, b, &Ty::Int);
     let texts = both_below(classes, a, b, &Ty::Text);

@@ -6,7 +6,7 @@ ghost use Rattle.qc_types.specs.declared.ty.Ty.TheVariants as ty;
 ghost use Rattle.qc_typing.specs.Kinds.{own_class, when};
 
 use crate::kinds::{either_of, own_class, when};
-use qc_data::{Memory, Name};
+use qc_containers::{Memory, Name};
 use qc_types::{Classes, Ty, copy_ty, subtype};
 use std::alloc::Global;
 
@@ -24,7 +24,9 @@ pub(crate) fn brand_type(
     name: &Name,
     a: &Ty,
 ) -> Result<Option<Ty>, Memory>
-    ensures { IfOk result (λ made. made ≡ option_and_then (λ t. when (sub classes.now a.now t) (ty.Brand name.now)) (shape classes.now name.now)) }
+    ensures { IfOk result
+        (λ made. made
+        ≡ option_and_then (λ t. when (sub classes.now a.now t) (ty.Brand name.now)) (shape classes.now name.now)) }
 {
     match classes.find(name.as_str()) {
         Some(class) => Ok(when(
@@ -62,7 +64,10 @@ pub(crate) fn cast_type(
     name: &Name,
     a: &Ty,
 ) -> Result<Option<Ty>, Memory>
-    ensures { IfOk result (λ made. made ≡ option_and_then (λ b. when (listed classes.now name.now) (ty.Either (ty.Brand name.now) ty.Unit)) (own_class a.now)) }
+    ensures { IfOk result
+        (λ made. made
+        ≡ option_and_then (λ b. when (listed classes.now name.now) (ty.Either (ty.Brand name.now) ty.Unit))
+        (own_class a.now)) }
 {
     match own_class(a) {
         Some(_) => {

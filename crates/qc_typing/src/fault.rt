@@ -1,5 +1,5 @@
 // Why a tree has no type.
-use qc_data::Memory;
+use qc_containers::Memory;
 use thiserror::Error;
 
 /// Why a tree has no type.

@@ -3,7 +3,7 @@ ghost use Rattle.std.specs.Prelude.{◌≡◌, IfOk, OnOk};
 ghost use Rattle.qc_ops.specs.Records.{is_among};
 ghost use Rattle.qc_typing.specs.Rows.{chosen, has_names, over, put_new, shared_join};
 
-use qc_data::{Memory, Name};
+use qc_containers::{Memory, Name};
 use qc_ops::Names;
 use qc_types::{Classes, Row, Ty, copy_row, copy_ty, join};
 use std::alloc::Global;

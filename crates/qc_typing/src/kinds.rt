@@ -7,7 +7,7 @@ ghost use Rattle.qc_typing.specs.Kinds.{own_class, is_bottom, members, record_pa
 ghost use Rattle.qc_typing.specs.Rows.{is_atom};
 ghost use Rattle.qc_typing.specs.Tables.{both_below, maybe_int};
 
-use qc_data::{Boxed, Memory, Name};
+use qc_containers::{Boxed, Memory, Name};
 use qc_types::{Classes, Row, Ty, Width, subtype};
 use std::alloc::Global;
 

@@ -1,6 +1,6 @@
 // The types that operators on records give.
 ghost use Rattle.std.specs.Prelude.{◌≡◌, [], ◌∷◌, IfOk, option_and_then};
-ghost use Rattle.qc_data.specs.Pairs.{lookup};
+ghost use Rattle.qc_containers.specs.Pairs.{lookup};
 ghost use Rattle.qc_types.specs.declared.ty.Width.TheVariants as width;
 ghost use Rattle.qc_types.specs.declared.ty.Ty.TheVariants as ty;
 ghost use Rattle.qc_typing.specs.Kinds.{on_records, record_parts, when};
@@ -8,7 +8,7 @@ ghost use Rattle.qc_typing.specs.Rows.{cat_type, chosen, has_names, merge_type};
 
 use crate::fields::{chosen, has_names, over, shared_join};
 use crate::kinds::{coll_of, record_parts};
-use qc_data::{Memory, Name};
+use qc_containers::{Memory, Name};
 use qc_ops::Names;
 use qc_types::{Classes, Row, Ty, Width, copy_row, copy_ty};
 use std::alloc::Global;
@@ -45,7 +45,10 @@ fn field_of(alloc: Global, name: &Name, row: &Row) -> Result<Option<Ty>, Memory>
 
 // The record of exactly the fields at the names, where they are there.
 pub(crate) fn project_type(alloc: Global, names: &Names, a: &Ty) -> Result<Option<Ty>, Memory>
-    ensures { IfOk result (λ made. made ≡ option_and_then (λ r. when (has_names names.now r.1) (ty.Rec width.Exact (chosen names.now r.1))) (record_parts a.now)) }
+    ensures { IfOk result
+        (λ made. made
+        ≡ option_and_then (λ r. when (has_names names.now r.1) (ty.Rec width.Exact (chosen names.now r.1)))
+        (record_parts a.now)) }
 {
     match record_parts(a) {
         Some((_, row)) => {

@@ -1,7 +1,7 @@
 // The types of rows that are ordered and grouped.
 ghost use Rattle.std.specs.Prelude.{◌≡◌, false, IfOk, option_and_then};
 ghost use Rattle.std.specs.List.{list_all};
-ghost use Rattle.qc_data.specs.Pairs.{lookup, put};
+ghost use Rattle.qc_containers.specs.Pairs.{lookup, put};
 ghost use Rattle.qc_ops.specs.Records.{is_among};
 ghost use Rattle.qc_types.specs.declared.ty.Width.TheVariants as width;
 ghost use Rattle.qc_types.specs.declared.ty.Ty.TheVariants as ty;
@@ -10,7 +10,7 @@ ghost use Rattle.qc_typing.specs.Rows.{atom_at, chosen, groups_of, has_names, is
 
 use crate::fields::{chosen, has_names, is_among};
 use crate::kinds::{coll_of, is_atom, members_of, when};
-use qc_data::{Memory, Name};
+use qc_containers::{Memory, Name};
 use qc_ops::{Keys, Names};
 use qc_types::{Classes, Row, Ty, Width, copy_ty};
 use std::alloc::Global;
@@ -22,7 +22,9 @@ pub(crate) fn order_type(
     keys: &Keys,
     a: &Ty,
 ) -> Result<Option<Ty>, Memory>
-    ensures { IfOk result (λ made. made ≡ option_and_then (λ t. when (is_ordered_by classes.now keys.now t) (ty.Coll t)) (members a.now)) }
+    ensures { IfOk result
+        (λ made. made
+        ≡ option_and_then (λ t. when (is_ordered_by classes.now keys.now t) (ty.Coll t)) (members a.now)) }
 {
     match members_of(a) {
         Some(row) => {
@@ -102,7 +104,8 @@ fn groups_of(alloc: Global, name: &Name, names: &Names, t: &Ty) -> Result<Option
 #[tactic(auto, using(crate::proofs::FieldLaws::chosen_absent))]
 fn group_of(alloc: Global, name: &Name, names: &Names, row: &Row, t: &Ty) -> Result<Ty, Memory>
     requires { is_among name.now names.now ≡ false }
-    ensures { IfOk result (λ made. made ≡ ty.Rec width.Exact (put name.now (ty.Coll t.now) (chosen names.now row.now))) }
+    ensures { IfOk result
+        (λ made. made ≡ ty.Rec width.Exact (put name.now (ty.Coll t.now) (chosen names.now row.now))) }
 {
     let mut fields = chosen(alloc, names, row)?;
     let name = name.copy(alloc)?;

@@ -8,13 +8,14 @@ use crate::classes::{brand_type, cast_type, content_type, is_listed};
 use crate::kinds::{coll_of, either_of, is_bottom, maybe_int, when, when_below, when_ints};
 use crate::records::{field_type, project_type, record_type};
 use crate::rows::{group_type, order_type};
-use qc_data::Memory;
+use qc_containers::Memory;
 use qc_ops::Unary;
 use qc_types::{Classes, Ty, copy_ty};
 use std::alloc::Global;
 
-/// The type that the operator gives on an operand of the type, and `None` exactly where it gives none. Of each value of the
-/// operand's type the operator makes, at any size, a value of the type that it gives, and within bounds the same or Range.
+/// The type that the operator gives on an operand of the type, and `None` exactly where it gives none. Of each value
+/// of the operand's type the operator makes, at any size, a value of the type that it gives, and within bounds the
+/// same or Range.
 pub fn type1(alloc: Global, classes: &Classes, op: &Unary, a: &Ty) -> Result<Option<Ty>, Memory>
     ensures value { IfOk result (λ t. t ≡ unary_type classes.now op.now a.now) }
     ensures sound { IfOk result (λ t. IsSound1 classes.now op.now a.now t) }

@@ -6,13 +6,12 @@ use Rattle.qc_data.specs.declared.halt.Halt.TheVariants as halt
 use Rattle.qc_data.specs.Encoding.{enc}
 use Rattle.qc_data.specs.Outcome.{any_size, bits64, Outcome, Value, Halts, Range as OutOfRange, Stuck, why_of}
 use Rattle.qc_lang.specs.Keeping.{IsOf}
-use Rattle.qc_types.specs.Schemas.{WorldOf, is_world}
+use Rattle.qc_types.specs.Schemas.{WorldOf}
 use Rattle.qc_schema.specs.Writing.{text_of}
 use Rattle.qcert.specs.declared.sources.Checked.{Checked}
 use Rattle.qcert.specs.inner.Promises.{HasItsType}
-use Rattle.qcert.specs.Right.{world_in}
 use Rattle.qcert.specs.Sources.{meaning_of}
-use Rattle.qcert.specs.Work.{line, Run, Gives, IsClear}
+use Rattle.qcert.specs.Work.{line, Run, IsTextFor, IsClear}
 
 not_stuck : (o : Outcome Datum) (v : Datum) → (o ≡ Value v) ⊎ (o ≡ Halts OutOfRange) → o ≡ Halts Stuck → ⊥
 not_stuck o v (inl e) f = cc
@@ -22,22 +21,16 @@ in_range : (o : Outcome Datum) (v : Datum) → o ≡ Value v → o ≡ Halts Out
 in_range o v e f = cc
 
 -- a value in bounds is the value at any size
-at_any_size : (o p : Outcome Datum) (v a : Datum) → (p ≡ Value v) ⊎ (p ≡ Halts OutOfRange) → o ≡ Value v → p ≡ Value a → o ≡ Value a
+at_any_size : (o p : Outcome Datum) (v a : Datum) → (p ≡ Value v) ⊎ (p ≡ Halts OutOfRange) → o ≡ Value v → p ≡ Value a
+    → o ≡ Value a
 at_any_size o p v a (inl e) f h = f ∙ sym e ∙ h
 at_any_size o p v a (inr e) f h = absurd (cc)
 
 no_memory : (h : Halt) → h ≡ halt.Stuck → h ≢ halt.Memory
 no_memory h e m = cc
 
-module _ (checked : Checked) (w : WorldOf) (is : w ≡ world_in checked.schema w.datum) (good : IsTrue (is_world w.classes w.globals w.datum))
+module _ (checked : Checked) (w : WorldOf) (of_schema : IsOf checked.schema w)
     (typed : HasItsType checked.schema checked.query) where
-  of_schema : IsOf checked.schema w
-  of_schema = record {
-    classes = ap (λ (x : WorldOf). x.classes) is;
-    globals = ap (λ (x : WorldOf). x.globals) is;
-    datum = subst (λ (x : WorldOf). IsTrue (is_world x.classes x.globals w.datum)) is good;
-  }
-
   -- the query's outcome in 64 bits
   abbrev in_bits : Outcome Datum
   in_bits = meaning_of checked.query bits64 w
@@ -47,15 +40,18 @@ module _ (checked : Checked) (w : WorldOf) (is : w ≡ world_in checked.schema w
 
   -- a typed query is never Stuck
   pub never_stuck : (h : Halt) → h ≡ halt.Stuck → (h ≢ halt.Memory → in_bits ≡ Halts (why_of h)) → ⊥
-  never_stuck h e given = not_stuck in_bits (typed w of_schema).0 is_in_bits (given (no_memory h e) ∙ ap (λ (x : Halt). Halts (why_of x)) e)
+  never_stuck h e given =
+      not_stuck in_bits (typed w of_schema).0 is_in_bits (given (no_memory h e) ∙ ap (λ (x : Halt). Halts (why_of x)) e)
 
   -- the text of a query's answer
   pub answer_of : (answer : Datum) → in_bits ≡ Value answer → (text : List ℕ) → text ≡ line (text_of (enc answer))
-      → Gives (Run checked w) text × IsClear (Run checked w)
+      → IsTextFor (Run checked w) text × IsClear (Run checked w)
   answer_of answer value text is_text = (
     record {
       answer = answer;
-      is_answer = at_any_size (meaning_of checked.query any_size w) in_bits (typed w of_schema).0 answer is_in_bits (typed w of_schema).2 value;
+      is_answer =
+          at_any_size (meaning_of checked.query any_size w) in_bits (typed w of_schema).0 answer is_in_bits
+          (typed w of_schema).2 value;
       in_bounds = value;
       is_text = is_text;
     },

@@ -10,13 +10,11 @@ use Rattle.qc_schema.specs.declared.faults.InputFault.{InputFault}
 use Rattle.qc_schema.specs.declared.faults.InputFault.TheVariants as input
 use Rattle.qc_schema.specs.declared.faults.SchemaFault.{SchemaFault}
 use Rattle.qc_schema.specs.declared.faults.SchemaFault.TheVariants as schemas
-use Rattle.qc_oql.specs.declared.fault.QueryFault.{QueryFault}
-use Rattle.qc_oql.specs.declared.fault.QueryFault.TheVariants as queries
+use Rattle.qc_source.specs.declared.fault.QueryFault.{QueryFault}
+use Rattle.qc_source.specs.declared.fault.QueryFault.TheVariants as queries
 use Rattle.qcert.specs.declared.refusal.Refusal.TheVariants.{Memory}
-use Rattle.qcert.specs.declared.sources.Source.{Source}
 use Rattle.qcert.specs.Causes.{of_schema, of_query, of_input}
-use Rattle.qcert.specs.Reading.{IsBadSchema, IsBadQuery, IsInput, IsBadInput}
-use Rattle.qcert.specs.Sources.{IsFault}
+use Rattle.qcert.specs.Reading.{IsBadSchema, IsForFault, IsInput, IsBadInput}
 
 module _ (bytes : List ℕ) where
   pub schema_refused : (f : SchemaFault) → (f ≡ schemas.BadSchema → (s : SchemaOf) → ¬ MeansSchema bytes s)
@@ -24,26 +22,31 @@ module _ (bytes : List ℕ) where
   schema_refused schemas.BadSchema bad = inl (refl, bad refl)
   schema_refused schemas.Memory bad = inr refl
 
-  pub query_refused : (source : Source) (schema : SchemaOf) (f : QueryFault) → IsFault source schema bytes f
-      → IsBadQuery source schema bytes (of_query f) ⊎ (of_query f ≡ Memory)
-  query_refused source schema (queries.BadScan at) u = inl (queries.BadScan at, (λ e. cc), u, refl)
-  query_refused source schema queries.TooManyTokens u = inl (queries.TooManyTokens, (λ e. cc), u, refl)
-  query_refused source schema (queries.BadSyntax at) u = inl (queries.BadSyntax at, (λ e. cc), u, refl)
-  query_refused source schema (queries.BadType at) u = inl (queries.BadType at, (λ e. cc), u, refl)
-  query_refused source schema queries.Memory u = inr refl
-
-  pub input_refused : (schema : SchemaOf) (f : InputFault) → (f ≡ input.BadInput → (d : Datum) → ¬ MeansWorld bytes schema d)
+  pub input_refused : (schema : SchemaOf) (f : InputFault)
+      → (f ≡ input.BadInput → (d : Datum) → ¬ MeansWorld bytes schema d)
       → IsBadInput schema bytes (of_input f) ⊎ (of_input f ≡ Memory)
   input_refused schema input.BadInput bad = inl (refl, bad refl)
   input_refused schema input.Memory bad = inr refl
+
+-- a fault of a query is a cause, but for want of memory
+pub query_refused : (IsFault : QueryFault → Type 0) (f : QueryFault) → IsFault f
+    → IsForFault IsFault (of_query f) ⊎ (of_query f ≡ Memory)
+query_refused IsFault (queries.BadScan at) u = inl (queries.BadScan at, (λ e. cc), u, refl)
+query_refused IsFault queries.TooManyTokens u = inl (queries.TooManyTokens, (λ e. cc), u, refl)
+query_refused IsFault (queries.BadSyntax at) u = inl (queries.BadSyntax at, (λ e. cc), u, refl)
+query_refused IsFault (queries.BadType at) u = inl (queries.BadType at, (λ e. cc), u, refl)
+query_refused IsFault queries.Memory u = inr refl
 
 abbrev world : Defs → List (List ℕ × Ty) → Datum → WorldOf
 world classes globals datum = record { classes = classes; globals = globals; datum = datum }
 
 -- a world of the schema's classes and globals
-pub is_input : (schema : SchemaOf) (bytes : List ℕ) (w : WorldOf) → MeansWorld bytes schema w.datum → w.classes ≡ schema.classes → w.globals ≡ schema.globals
+pub is_input : (schema : SchemaOf) (bytes : List ℕ) (w : WorldOf) → MeansWorld bytes schema w.datum
+    → w.classes ≡ schema.classes → w.globals ≡ schema.globals
     → IsInput schema bytes w
 is_input schema bytes w means e f = record {
   means = means;
-  is_world = ap (λ (c : Defs). world c w.globals w.datum) e ∙ ap (λ (g : List (List ℕ × Ty)). world schema.classes g w.datum) f;
+  is_world =
+      ap (λ (c : Defs). world c w.globals w.datum) e
+      ∙ ap (λ (g : List (List ℕ × Ty)). world schema.classes g w.datum) f;
 }

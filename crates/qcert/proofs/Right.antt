@@ -1,5 +1,6 @@
 -- The layout of what a query becomes is right for the query.
-use Rattle.std.proofs.Common.{◌≡◌, ◌^◌, ◌-◌, inl, inr, ◌∙◌, ap, refl, List, [], ◌∷◌, ℕ, map, Some, None, sym, pos, negsuc, IsTrue}
+use Rattle.std.proofs.Common.{◌≡◌, ◌^◌, ◌-◌, inl, inr, ◌∙◌, ap, refl, List, [], ◌∷◌, ℕ, map, Some, None, sym, pos}
+use Rattle.std.proofs.Common.{negsuc, IsTrue}
 use Rattle.qc_data.specs.declared.data.Datum.{Datum}
 use Rattle.qc_data.specs.Encoding.{enc, encoded}
 use Rattle.qc_data.specs.Outcome.{Mode, bits64}
@@ -16,13 +17,13 @@ use Rattle.qc_oql_tree.specs.Meaning.{defined, named, oql}
 use Rattle.qcert.specs.declared.sources.Query.{Query}
 use Rattle.qcert.specs.declared.sources.Query.TheVariants as query
 use Rattle.qcert.specs.inner.Promises.{HasItsType}
-use Rattle.qcert.specs.Lowering.{lowered_body, lowered_query}
+use Rattle.qcert.specs.Lowering.{lower_body, lower_query}
 use Rattle.qcert.specs.Right.{IsRight, IsWorld, world_in, AnswersAs}
 use Rattle.qcert.specs.Sources.{meaning_of}
 use Rattle.qcert.proofs.Lowered.{IsFaithful, lowered_faithful}
 
 -- a query that is compiled has no definitions
-body_faithful : (ds : List Named) (body : Oql) (e : Expr) → lowered_body ds body ≡ Some e
+body_faithful : (ds : List Named) (body : Oql) (e : Expr) → lower_body ds body ≡ Some e
     → IsFaithful (λ m w s. defined (map (named m w) ds) (oql m w body) s) e
 body_faithful [] body e h = let r = lowered_faithful body e h in record { arities = r.arities; agrees = r.agrees }
 body_faithful (d ∷ ds) body e h = absurd (cc)
@@ -32,19 +33,21 @@ record IsMeant (q : Query) (e : Expr) : Type 0 where
   arities : IsTrue (has_arities e)
   agrees : (m : Mode) (world : WorldOf) → js_expr m e (enc world.datum) ≡ encoded (meaning_of q m world)
 
-meant : (q : Query) (e : Expr) → lowered_query q ≡ Some e → IsMeant q e
+meant : (q : Query) (e : Expr) → lower_query q ≡ Some e → IsMeant q e
 meant (query.Oql typed) e h =
     let r = body_faithful typed.query.defines typed.query.body e h in
     record { arities = r.arities; agrees = λ m world. r.agrees m world [] }
 
-module _ (schema : SchemaOf) (q : Query) (e : Expr) (becomes : lowered_query q ≡ Some e) (program : Js) (is : program.result ≡ e) where
+module _ (schema : SchemaOf) (q : Query) (e : Expr) (becomes : lower_query q ≡ Some e) (program : Js)
+    (is : program.result ≡ e) where
   is_program : IsProgram program
   is_program = ap has_arities is ∙ (meant q e becomes).arities
 
   agrees : (m : Mode) (world : WorldOf) → js m program (enc world.datum) ≡ encoded (meaning_of q m world)
   agrees m world = ap (λ x. js_expr m x (enc world.datum)) is ∙ (meant q e becomes).agrees m world
 
-  answers : HasItsType schema q → (world : Datum) → IsWorld schema world → AnswersAs bits64 (meaning_of q) program (world_in schema world)
+  answers : HasItsType schema q → (world : Datum) → IsWorld schema world
+      → AnswersAs bits64 (meaning_of q) program (world_in schema world)
   answers typed world is_world =
       let t = typed (world_in schema world) (record { classes = refl; globals = refl; datum = is_world }) in
       record {
@@ -52,7 +55,11 @@ module _ (schema : SchemaOf) (q : Query) (e : Expr) (becomes : lowered_query q �
         is_answer = t.2;
         agrees = elim (t.3 (negsuc (2 ^ 63 - 1)) (pos (2 ^ 63 - 1))) [
           | inl value ↦ inl (agrees bits64 (world_in schema world) ∙ ap encoded value)
-          | inr range ↦ inr (record { leaves = range; throws = agrees bits64 (world_in schema world) ∙ ap encoded range })
+          | inr range ↦ inr (record {
+            leaves = range;
+            throws = agrees bits64 (world_in schema world)
+                ∙ ap encoded range;
+          })
         ];
       }
 
@@ -67,5 +74,5 @@ module _ (schema : SchemaOf) (q : Query) (e : Expr) (becomes : lowered_query q �
     each = answers typed;
   }
 
-pub is_built : (q : Query) (e : Expr) → lowered_query q ≡ Some e → lowered_query q ≡ None → ⊥
+pub is_built : (q : Query) (e : Expr) → lower_query q ≡ Some e → lower_query q ≡ None → ⊥
 is_built q e some none = let clash : Some e ≡ None = sym some ∙ none in cc

@@ -1,10 +1,10 @@
 -- Faults of the crates below, as refusals.
-use Rattle.qc_oql.specs.declared.fault.QueryFault.{QueryFault}
-use Rattle.qc_oql.specs.declared.fault.QueryFault.TheVariants as query
 use Rattle.qc_schema.specs.declared.faults.InputFault.{InputFault}
 use Rattle.qc_schema.specs.declared.faults.InputFault.TheVariants as input
 use Rattle.qc_schema.specs.declared.faults.SchemaFault.{SchemaFault}
 use Rattle.qc_schema.specs.declared.faults.SchemaFault.TheVariants as schema
+use Rattle.qc_source.specs.declared.fault.QueryFault.{QueryFault}
+use Rattle.qc_source.specs.declared.fault.QueryFault.TheVariants as query
 use Rattle.qcert.specs.declared.refusal.File.TheVariants.{Query}
 use Rattle.qcert.specs.declared.refusal.Refusal.{Refusal}
 use Rattle.qcert.specs.declared.refusal.Refusal.TheVariants.{BadSchema, BadScan, TooManyTokens, BadSyntax, BadType}

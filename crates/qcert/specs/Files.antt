@@ -23,9 +23,10 @@ HasNoText texts file name r = ((r ≡ ReadFault file) × IsMissing texts name)
 abbrev pub fetch : File → List ℕ → Step (List ℕ)
 fetch file name = record {
   accepts = λ texts bytes. IsText texts name (most_of file) bytes;
+  asks = λ texts bytes names. names ≡ name ∷ [];
   must = λ texts r. HasNoText texts file name r;
-  may = λ texts failed r. HasNoText texts file name r ⊎ ((r ≡ ReadFault file) × failed) ⊎ (r ≡ Memory);
-  asks = λ texts names. names ≡ name ∷ [];
+  may = λ texts failed r names.
+      (HasNoText texts file name r ⊎ ((r ≡ ReadFault file) × failed) ⊎ (r ≡ Memory)) × (names ≡ name ∷ []);
 }
 
 -- what the text of the file of this name means, or why it means nothing

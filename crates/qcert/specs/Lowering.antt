@@ -48,15 +48,15 @@ lower_form (Oql-F.Binary at op a b) = call_two (called_two op) a b
 lower_form _ = None
 
 -- the expression that an expression of OQL becomes, if it is compiled
-abbrev pub lowered : Oql → Option Expr
-lowered x = fold-Oql (Option Expr) (Unit {0}) (Unit {0}) (Unit {0}) (Unit {0}) (Unit {0}) lower_form
+abbrev pub lower : Oql → Option Expr
+lower x = fold-Oql (Option Expr) (Unit {0}) (Unit {0}) (Unit {0}) (Unit {0}) (Unit {0}) lower_form
     (λ f. tt) (λ k. tt) (λ n. tt) (λ o. tt) (λ s. tt) x
 
 -- the expression that a query without definitions becomes
-abbrev pub lowered_body : List Named → Oql → Option Expr
-lowered_body [] body = lowered body
-lowered_body (d ∷ ds) body = None
+abbrev pub lower_body : List Named → Oql → Option Expr
+lower_body [] body = lower body
+lower_body (d ∷ ds) body = None
 
 -- the expression that a query becomes, if it is compiled
-abbrev pub lowered_query : Query → Option Expr
-lowered_query (query.Oql typed) = lowered_body typed.query.defines typed.query.body
+abbrev pub lower_query : Query → Option Expr
+lower_query (query.Oql typed) = lower_body typed.query.defines typed.query.body

@@ -1,5 +1,5 @@
 -- What a call of the program did.
-use Rattle.std.specs.Prelude.{◌≡◌, ℕ, List, Option, Some, None, Result, Err}
+use Rattle.std.specs.Prelude.{◌≡◌, ℕ, List, ◌++◌, Option, Some, None, Result, Err, IsOk}
 use Rattle.std.specs.Io.KnownBytes.{append_known}
 use Rattle.qc_data.specs.Outcome.{bits64}
 use Rattle.qc_io.specs.Device.{Texts, HasAsked}
@@ -8,11 +8,11 @@ use Rattle.qcert.specs.declared.refusal.Refusal.TheVariants.{Usage}
 use Rattle.qcert.specs.declared.sources.Checked.{Checked}
 use Rattle.qcert.specs.Delivery.{Put, IsDelivered}
 use Rattle.qcert.specs.Jobs.{Subject, Job, job_of}
-use Rattle.qcert.specs.Reading.{checked_in, read, serve}
+use Rattle.qcert.specs.Reading.{checked_in, read, files_of, serve}
 use Rattle.qcert.specs.Right.{IsRight}
 use Rattle.qcert.specs.Sources.{meaning_of}
-use Rattle.qcert.specs.Steps.{Visit, HasFailed, Ended}
-use Rattle.qcert.specs.Work.{Work, Gives, IsClear}
+use Rattle.qcert.specs.Steps.{Names, Visit, HasFailed, MayEnd, Ended}
+use Rattle.qcert.specs.Work.{Work, IsTextFor, IsClear}
 
 -- the words may end so: without a job nothing is asked for, and a job is served
 pub data IsEnding (words : List (List ℕ)) (shelf : Visit) (ending : Result (List ℕ) Refusal) : Type 0 where
@@ -26,11 +26,21 @@ pub record Ran (words : List (List ℕ)) (shelf : Visit) (out err : Put) (status
   pub is_ending : IsEnding words shelf ending
   pub delivered : IsDelivered ending out err status
 
--- the shelf was asked for names that the job asks for, in order, and for no others; without a job for none
-pub data HasAskedFor (words : List (List ℕ)) (shelf : Visit) : Type 0 where
-  nothing : job_of words ≡ None → shelf.asked_new ≡ shelf.asked_old → HasAskedFor words shelf
-  its_files : (job : Job) → job_of words ≡ Some job → (names : List (List ℕ)) → (serve job).asks shelf.texts names
-      → HasAsked shelf.asked_old shelf.asked_new names → HasAskedFor words shelf
+-- the shelf was asked for these of the job's files, in order, and for no others: for all of them where the job ended
+-- with a text, and else for those up to the step that was refused
+pub record AskedFor (job : Job) (shelf : Visit) (ending : Result (List ℕ) Refusal) : Type 0 where
+  pub names : Names
+  pub others : Names
+  pub files : files_of job ≡ names ++ others
+  pub all : IsOk ending → names ≡ files_of job
+  pub until : MayEnd (serve job) shelf.texts (HasFailed shelf) ending names
+  pub asked : HasAsked shelf.asked_old shelf.asked_new names
+
+-- without a job the shelf was asked for nothing, and else for the job's files until it ended, as was delivered
+pub data HasAskedFor (words : List (List ℕ)) (shelf : Visit) (out err : Put) (status : ℕ) : Type 0 where
+  nothing : job_of words ≡ None → shelf.asked_new ≡ shelf.asked_old → HasAskedFor words shelf out err status
+  its_files : (job : Job) → job_of words ≡ Some job → (ending : Result (List ℕ) Refusal)
+      → IsDelivered ending out err status → AskedFor job shelf ending → HasAskedFor words shelf out err status
 
 -- the words ask for a job, its files were read, and what was added to the output is what its work gives
 pub record IsServed (words : List (List ℕ)) (texts : Option Texts) (out : Put) : Type 0 where
@@ -39,7 +49,7 @@ pub record IsServed (words : List (List ℕ)) (texts : Option Texts) (out : Put)
   pub work : Work
   pub is_work : (read job).accepts texts work
   pub text : List ℕ
-  pub given : Gives work text
+  pub given : IsTextFor work text
   pub added : out.new ≡ append_known out.old text
 
 -- what was added to the output is right for the subject's query, in every world of the subject's schema

@@ -1,11 +1,13 @@
 -- The files of a job, read in order: its schema, its query and its input.
-use Rattle.std.specs.Prelude.{◌≡◌, ◌≢◌, ℕ, List, [], Option, Some, None, codes}
+use Rattle.std.specs.Prelude.{◌≡◌, ◌≢◌, ℕ, List, [], ◌∷◌, ◌++◌, Option, Some, None, codes}
 use Rattle.qc_data.specs.declared.data.Datum.{Datum}
+use Rattle.qc_lex.specs.declared.token.Placed.{Placed}
 use Rattle.qc_types.specs.Schemas.{SchemaOf, WorldOf}
 use Rattle.qc_schema.specs.Inputs.{MeansWorld}
 use Rattle.qc_schema.specs.SchemaFile.{MeansSchema}
-use Rattle.qc_oql.specs.declared.fault.QueryFault.{QueryFault}
-use Rattle.qc_oql.specs.declared.fault.QueryFault.TheVariants as fault
+use Rattle.qc_source.specs.declared.fault.QueryFault.{QueryFault}
+use Rattle.qc_source.specs.declared.fault.QueryFault.TheVariants as fault
+use Rattle.qc_source.specs.Queries.{IsTokens, IsScanFault}
 use Rattle.qcert.specs.declared.refusal.File.TheVariants as file
 use Rattle.qcert.specs.declared.refusal.Refusal.{Refusal}
 use Rattle.qcert.specs.declared.refusal.Refusal.TheVariants.{BadSchema, BadInput}
@@ -16,8 +18,8 @@ use Rattle.qcert.specs.Causes.{of_query}
 use Rattle.qcert.specs.Files.{read_as}
 use Rattle.qcert.specs.Jobs.{Subject, Job, Check, Compile, Run}
 use Rattle.qcert.specs.Right.{world_in}
-use Rattle.qcert.specs.Sources.{IsQuery, IsFault}
-use Rattle.qcert.specs.Steps.{Step, firm, pure, then}
+use Rattle.qcert.specs.Sources.{table_of, IsQuery, IsFault}
+use Rattle.qcert.specs.Steps.{Names, Step, firm, pure, then}
 use Rattle.qcert.specs.Work as work
 use Rattle.qcert.specs.Work.{Work, act}
 
@@ -32,16 +34,28 @@ abbrev pub schema_of : Option (List ℕ) → Step SchemaOf
 schema_of None = pure (record { classes = []; globals = [] })
 schema_of (Some name) = read_as MeansSchema IsBadSchema file.Schema name
 
--- ---- the query
+-- ---- the query: its tokens, and then what they spell
 
--- the text spells no query of the schema
-abbrev pub IsBadQuery : Source → SchemaOf → List ℕ → Refusal → Type 0
-IsBadQuery source schema bytes r =
-    (f : QueryFault) × (f ≢ fault.Memory) × IsFault source schema bytes f × (r ≡ of_query f)
+-- it is refused for one of these faults; want of memory is none
+abbrev pub IsForFault : (QueryFault → Type 0) → Refusal → Type 0
+IsForFault IsFault r = (f : QueryFault) × (f ≢ fault.Memory) × IsFault f × (r ≡ of_query f)
+
+-- the text is no tokens of the source, or too many
+abbrev pub IsBadScan : Source → List ℕ → Refusal → Type 0
+IsBadScan source bytes r = IsForFault (IsScanFault (table_of source) bytes) r
+
+-- the tokens in the query's file
+abbrev pub tokens_in : Source → List ℕ → Step (List Placed)
+tokens_in source name = read_as (IsTokens (table_of source)) (IsBadScan source) file.Query name
+
+-- the tokens spell no query of the schema
+abbrev pub IsBadQuery : Source → SchemaOf → List Placed → Refusal → Type 0
+IsBadQuery source schema words r = IsForFault (IsFault source schema words) r
 
 -- the query of this schema in the file of this name
 abbrev pub query_in : Source → SchemaOf → List ℕ → Step Query
-query_in source schema name = read_as (IsQuery source schema) (IsBadQuery source schema) file.Query name
+query_in source schema name = then (tokens_in source name)
+    (λ words. firm (IsQuery source schema words) (IsBadQuery source schema words))
 
 -- a subject's schema, and its query in it
 abbrev pub checked_in : Subject → Step Checked
@@ -73,6 +87,17 @@ read (Check subject) = then (checked_in subject) (λ checked. pure (work.Check c
 read (Compile subject) = then (checked_in subject) (λ checked. pure (work.Compile checked))
 read (Run subject input) = then (checked_in subject)
     (λ checked. then (input_of checked.schema input) (λ world. pure (work.Run checked world)))
+
+-- the name of a file, if there is one
+abbrev pub names_of : Option (List ℕ) → Names
+names_of None = []
+names_of (Some name) = name ∷ []
+
+-- the names of a job's files, in the order in which they are read
+abbrev pub files_of : Job → Names
+files_of (Check subject) = names_of subject.schema ++ subject.query ∷ []
+files_of (Compile subject) = names_of subject.schema ++ subject.query ∷ []
+files_of (Run subject input) = (names_of subject.schema ++ subject.query ∷ []) ++ names_of input
 
 -- the files of the job are read, and then the work is done
 abbrev pub serve : Job → Step (List ℕ)

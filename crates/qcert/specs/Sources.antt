@@ -1,10 +1,13 @@
--- Source languages behind one face: which query the bytes of a file spell, by source, and what a query means.
-use Rattle.std.specs.Prelude.{ℕ, List}
+-- Source languages behind one face, a row each: the table of its tokens, which query tokens spell, and what it means.
+use Rattle.std.specs.Prelude.{List}
 use Rattle.qc_data.specs.declared.data.Datum.{Datum}
 use Rattle.qc_data.specs.Outcome.{Mode, Outcome}
+use Rattle.qc_lex.specs.declared.token.Placed.{Placed}
+use Rattle.qc_lex.specs.declared.token.Table.{Table}
+use Rattle.qc_lex.specs.declared.token.Table.TheVariants as table
 use Rattle.qc_types.specs.declared.ty.Ty.{Ty}
 use Rattle.qc_types.specs.Schemas.{SchemaOf, WorldOf}
-use Rattle.qc_oql.specs.declared.fault.QueryFault.{QueryFault}
+use Rattle.qc_source.specs.declared.fault.QueryFault.{QueryFault}
 use Rattle.qc_oql.specs.Queries as oql
 use Rattle.qc_oql_tree.specs.Meaning as oql_meaning
 use Rattle.qcert.specs.declared.sources.Query.{Query}
@@ -12,13 +15,17 @@ use Rattle.qcert.specs.declared.sources.Query.TheVariants as query
 use Rattle.qcert.specs.declared.sources.Source.{Source}
 use Rattle.qcert.specs.declared.sources.Source.TheVariants as source
 
--- the bytes spell this query, which has its type in the schema
-abbrev pub IsQuery : Source → SchemaOf → List ℕ → Query → Type 0
-IsQuery source.Oql schema bytes (query.Oql typed) = oql.IsQuery schema bytes typed
+-- the table of its tokens
+abbrev pub table_of : Source → Table
+table_of source.Oql = table.Oql
 
--- why the bytes spell no query of the schema; want of memory needs no cause
-abbrev pub IsFault : Source → SchemaOf → List ℕ → QueryFault → Type 0
-IsFault source.Oql schema bytes fault = oql.IsFault schema bytes fault
+-- the tokens spell this query and no other, and it has its type in the schema
+abbrev pub IsQuery : Source → SchemaOf → List Placed → Query → Type 0
+IsQuery source.Oql schema words (query.Oql typed) = oql.IsQuery schema words typed
+
+-- why the tokens spell no query of the schema; want of memory needs no cause
+abbrev pub IsFault : Source → SchemaOf → List Placed → QueryFault → Type 0
+IsFault source.Oql schema words fault = oql.IsFault schema words fault
 
 -- the type of the query's answers
 abbrev pub type_of : Query → Ty

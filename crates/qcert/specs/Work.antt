@@ -9,7 +9,7 @@ use Rattle.qc_schema.specs.Writing.{text_of}
 use Rattle.qcert.specs.declared.refusal.Refusal.{Refusal}
 use Rattle.qcert.specs.declared.refusal.Refusal.TheVariants.{Unbuilt, Range}
 use Rattle.qcert.specs.declared.sources.Checked.{Checked}
-use Rattle.qcert.specs.Lowering.{lowered_query}
+use Rattle.qcert.specs.Lowering.{lower_query}
 use Rattle.qcert.specs.Right.{Meaning, IsRight}
 use Rattle.qcert.specs.Sources.{meaning_of, type_of}
 use Rattle.qcert.specs.Steps.{Step, firm}
@@ -32,15 +32,15 @@ pub record IsAnswer (mode : Mode) (means : Meaning) (world : WorldOf) (text : Li
   pub is_text : text ≡ line (text_of (enc answer))
 
 -- the text is the JSON of the query's type, a program that is right for the query, or the JSON of its answer
-abbrev pub Gives : Work → List ℕ → Type 0
-Gives (Check checked) text = text ≡ line (text_of (tree_of (type_of checked.query)))
-Gives (Compile checked) text = IsRight bits64 checked.schema (meaning_of checked.query) text
-Gives (Run checked world) text = IsAnswer bits64 (meaning_of checked.query) world text
+abbrev pub IsTextFor : Work → List ℕ → Type 0
+IsTextFor (Check checked) text = text ≡ line (text_of (tree_of (type_of checked.query)))
+IsTextFor (Compile checked) text = IsRight bits64 checked.schema (meaning_of checked.query) text
+IsTextFor (Run checked world) text = IsAnswer bits64 (meaning_of checked.query) world text
 
 -- the query is not compiled yet, or it leaves 64 bits in the world
 abbrev pub Refuses : Work → Refusal → Type 0
 Refuses (Check checked) r = ⊥
-Refuses (Compile checked) r = (r ≡ Unbuilt) × (lowered_query checked.query ≡ None)
+Refuses (Compile checked) r = (r ≡ Unbuilt) × (lower_query checked.query ≡ None)
 Refuses (Run checked world) r = (r ≡ Range) × (meaning_of checked.query bits64 world ≡ Halts OutOfRange)
 
 -- there is no cause to refuse the work
@@ -49,4 +49,4 @@ IsClear work = (r : Refusal) → ¬ Refuses work r
 
 -- the text that the work gives where there is no cause to refuse it
 abbrev pub act : Work → Step (List ℕ)
-act work = firm (λ text. Gives work text × IsClear work) (Refuses work)
+act work = firm (λ text. IsTextFor work text × IsClear work) (Refuses work)

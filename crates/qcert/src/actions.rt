@@ -1,14 +1,15 @@
 // What is done with a query: the line of its type, its program, and the line of its answer.
 ghost use Rattle.std.specs.Prelude.{◌≡◌, ◌⊎◌, None, IfOk, MatchResult};
 ghost use Rattle.std.specs.String.{string_bytes};
-ghost use Rattle.qcert.specs.Right.{world_in};
+ghost use Rattle.qc_lang.specs.Keeping.{IsOf};
 ghost use Rattle.qcert.specs.Work.{line, Check, Compile, Run};
 ghost use Rattle.qcert.specs.inner.Promises.{Acts, HasItsType};
 
 use crate::lower::lower_query;
 use crate::refusal::Refusal;
 use crate::sources::{Checked, evaluate, type_of};
-use qc_data::{Halt, Memory, enc};
+use qc_containers::Memory;
+use qc_data::{Halt, enc};
 use qc_js::{Js, emit_text};
 use qc_schema::{json_text, type_text};
 use qc_types::World;
@@ -35,10 +36,9 @@ pub fn program_text(alloc: Global, checked: &Checked) -> Result<String, Refusal>
 /// The JSON of the query's answer in a world, and a line feed.
 pub fn answer_line(alloc: Global, checked: &Checked, world: &World) -> Result<String, Refusal>
     requires typed { HasItsType checked.now.schema checked.now.query }
-    requires world { world.now ≡ world_in checked.now.schema world.now.datum }
+    requires world { IsOf checked.now.schema world.now }
     ensures { Acts string_bytes (Run checked.now world.now) result }
 {
-    let _whole = world.whole();
     match evaluate(alloc, &checked.query, world) {
         Ok(answer) => Ok(line(alloc, json_text(alloc, &enc(alloc, &answer)?)?.as_str())?),
         Err(Halt::Range) => Err(Refusal::Range),

@@ -2,17 +2,17 @@
 ghost use Rattle.std.specs.Prelude.{◌≡◌, IfOk, map, option_map};
 ghost use Rattle.qc_js.specs.declared.tree.Expr.TheVariants.{Array};
 ghost use Rattle.qcert.specs.Lowering.{all_there, called_one, called_two, call_one, call_two};
-ghost use Rattle.qcert.specs.Lowering.{lowered, lowered_body, lowered_query};
+ghost use Rattle.qcert.specs.Lowering.{lower, lower_body, lower_query};
 
 use crate::sources::Query;
-use qc_data::{List, Memory};
+use qc_containers::{List, Memory};
 use qc_js::{Expr, Function};
 use qc_oql_tree::{Binary, Oql, Unary};
 use std::alloc::Global;
 
 /// The expression that answers as the query does, if the query is compiled.
 pub fn lower_query(alloc: Global, query: &Query) -> Result<Option<Expr>, Memory>
-    ensures { IfOk result (λ expression. expression ≡ lowered_query query.now) }
+    ensures { IfOk result (λ expression. expression ≡ lower_query query.now) }
 {
     match query {
         Query::Oql(typed) => lower_body(alloc, &typed.query),
@@ -21,7 +21,7 @@ pub fn lower_query(alloc: Global, query: &Query) -> Result<Option<Expr>, Memory>
 
 // The expression that a query without definitions becomes.
 fn lower_body(alloc: Global, query: &qc_oql_tree::Query) -> Result<Option<Expr>, Memory>
-    ensures { IfOk result (λ expression. expression ≡ lowered_body query.now.defines query.now.body) }
+    ensures { IfOk result (λ expression. expression ≡ lower_body query.now.defines query.now.body) }
 {
     if query.defines.len() > 0 {
         return Ok(None);
@@ -31,7 +31,7 @@ fn lower_body(alloc: Global, query: &qc_oql_tree::Query) -> Result<Option<Expr>,
 
 #[cycle(lower)]
 fn lower(alloc: Global, query: &Oql) -> Result<Option<Expr>, Memory>
-    ensures { IfOk result (λ expression. expression ≡ lowered query.now) }
+    ensures { IfOk result (λ expression. expression ≡ lower query.now) }
 {
     match query {
         Oql::Whole(_, n) => Ok(Some(Expr::Int(*n))),
@@ -73,7 +73,7 @@ fn called_two(op: Binary) -> Option<Function>
 // The array of the members.
 #[cycle(lower)]
 fn lower_bag(alloc: Global, queries: &[Oql]) -> Result<Option<Expr>, Memory>
-    ensures { IfOk result (λ expression. expression ≡ option_map Array (all_there (map lowered queries.now))) }
+    ensures { IfOk result (λ expression. expression ≡ option_map Array (all_there (map lower queries.now))) }
 {
     let mut all = List::new(alloc);
     for query in queries {

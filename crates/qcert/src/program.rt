@@ -51,8 +51,10 @@ pub fn run<S: Shelf, O: Sink, E: Sink>(
         → ¬ Rose (S.faults shelf.old) (S.faults shelf.new)
         → IsRefusedFor (put O.written O.faults out.old out.new) (put E.written E.faults err.old err.new) result due }
 
-    // The shelf was asked for the job's files, each where those before it were accepted, and for nothing else.
-    ensures asked { HasAskedFor (map rc_str_bytes words.now) (visit S.texts S.faults S.asked shelf.old shelf.new) }
+    // The shelf was asked for the job's files in order, each where the steps before it accepted what they read, until a
+    // step was refused, and for nothing else.
+    ensures asked { HasAskedFor (map rc_str_bytes words.now) (visit S.texts S.faults S.asked shelf.old shelf.new)
+        (put O.written O.faults out.old out.new) (put E.written E.faults err.old err.new) result }
 
     // The shelf keeps its texts.
     ensures same { S.texts shelf.new ≡ S.texts shelf.old }

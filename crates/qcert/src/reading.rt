@@ -1,13 +1,16 @@
-// The texts of a job's files, read: a schema, a query, an input, or why not.
+// The texts of a job's files, read: a schema, tokens and a query, an input, or why not.
 ghost use Rattle.std.specs.Prelude.{◌≤◌, length, IfOk};
 ghost use Rattle.qc_schema.specs.SchemaFile.{MeansSchema};
-ghost use Rattle.qcert.specs.Reading.{IsBadSchema, IsBadQuery, IsInput, IsBadInput};
-ghost use Rattle.qcert.specs.Sources.{IsQuery};
+ghost use Rattle.qc_source.specs.Queries.{IsTokens};
+ghost use Rattle.qcert.specs.Reading.{IsBadSchema, IsBadScan, IsBadQuery, IsInput, IsBadInput};
+ghost use Rattle.qcert.specs.Sources.{IsQuery, table_of};
 ghost use Rattle.qcert.specs.inner.Promises.{Computes, HasItsType};
 
 use crate::refusal::Refusal;
-use crate::sources::{Query, Source, read_query};
+use crate::sources::{Query, Source, read_query, table_of};
+use qc_lex::Words;
 use qc_schema::{read_input, read_schema};
+use qc_source::tokens_of;
 use qc_types::{Schema, World};
 use std::alloc::Global;
 
@@ -18,18 +21,25 @@ pub fn schema_in(alloc: Global, bytes: &[u8]) -> Result<Schema, Refusal>
     Ok(read_schema(alloc, bytes)?)
 }
 
-/// The query of the schema that the bytes spell.
+/// The tokens of the source that the bytes are.
+pub fn tokens_in(alloc: Global, source: Source, bytes: &[u8]) -> Result<Words, Refusal>
+    requires { length bytes.now ≤ 65536 }
+    ensures { Computes (IsTokens (table_of source) bytes.now) (IsBadScan source bytes.now) result }
+{
+    Ok(tokens_of(alloc, table_of(source), bytes)?)
+}
+
+/// The query of the schema that the tokens spell.
 pub fn query_in(
     alloc: Global,
     source: Source,
     schema: &Schema,
-    bytes: &[u8],
+    words: &Words,
 ) -> Result<Query, Refusal>
-    requires { length bytes.now ≤ 65536 }
-    ensures reads { Computes (IsQuery source schema.now bytes.now) (IsBadQuery source schema.now bytes.now) result }
+    ensures reads { Computes (IsQuery source schema.now words.now) (IsBadQuery source schema.now words.now) result }
     ensures typed { IfOk result (HasItsType schema.now) }
 {
-    Ok(read_query(alloc, source, schema, bytes)?)
+    Ok(read_query(alloc, source, schema, words)?)
 }
 
 /// The world of the schema that the bytes mean.

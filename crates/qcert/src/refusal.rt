@@ -1,7 +1,7 @@
 // Why a call is refused, and its exit status.
-use qc_data::Memory;
-use qc_oql::QueryFault;
+use qc_containers::Memory;
 use qc_schema::{InputFault, SchemaFault};
+use qc_source::QueryFault;
 
 /// A file of a job.
 #[derive(Clone, Copy, Debug, PartialEq, Eq)]

@@ -1,11 +1,13 @@
 // The source languages behind one face.
-ghost use Rattle.std.specs.Prelude.{◌≡◌, ◌≤◌, length, IfOk, MatchResult};
+ghost use Rattle.std.specs.Prelude.{◌≡◌, IfOk, MatchResult};
 ghost use Rattle.qc_data.specs.Outcome.{bits64, Gives as HasOutcome};
-ghost use Rattle.qcert.specs.Sources.{IsQuery, IsFault, meaning_of, type_of};
+ghost use Rattle.qcert.specs.Sources.{IsQuery, IsFault, meaning_of, table_of, type_of};
 ghost use Rattle.qcert.specs.inner.Promises.{HasItsType};
 
 use qc_data::{Datum, Halt};
-use qc_oql::{QueryFault, TypedQuery};
+use qc_lex::{Table, Words};
+use qc_oql::TypedQuery;
+use qc_source::QueryFault;
 use qc_types::{Schema, Ty, World};
 use std::alloc::Global;
 
@@ -30,19 +32,27 @@ pub struct Checked {
     pub query: Query,
 }
 
-/// The query of the source that the bytes spell, with its type in the schema, or the first fault.
+/// The table of the source's tokens.
+pub fn table_of(source: Source) -> Table
+    ensures { result ≡ table_of source }
+{
+    match source {
+        Source::Oql => Table::Oql,
+    }
+}
+
+/// The query of the source that the tokens spell, with its type in the schema, or the first fault.
 pub fn read_query(
     alloc: Global,
     source: Source,
     schema: &Schema,
-    bytes: &[u8],
+    words: &Words,
 ) -> Result<Query, QueryFault>
-    requires { length bytes.now ≤ 65536 }
-    ensures reads { MatchResult result (IsQuery source schema.now bytes.now) (IsFault source schema.now bytes.now) }
+    ensures reads { MatchResult result (IsQuery source schema.now words.now) (IsFault source schema.now words.now) }
     ensures typed { IfOk result (HasItsType schema.now) }
 {
     match source {
-        Source::Oql => Ok(Query::Oql(qc_oql::read(alloc, schema, bytes)?)),
+        Source::Oql => Ok(Query::Oql(qc_oql::read(alloc, schema, words)?)),
     }
 }
 

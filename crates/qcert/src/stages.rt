@@ -6,15 +6,17 @@ ghost use Rattle.qc_schema.specs.SchemaFile.{MeansSchema};
 ghost use Rattle.qcert.specs.declared.refusal.File.TheVariants as file;
 ghost use Rattle.qcert.specs.Files.{fetch, most_of, read_as};
 ghost use Rattle.qcert.specs.Jobs.{subject_seen};
-ghost use Rattle.qcert.specs.Reading.{IsBadSchema, schema_of, query_in, checked_in, IsInput, IsBadInput, input_of};
+ghost use Rattle.qcert.specs.Reading.{IsBadSchema, schema_of, tokens_in, query_in, checked_in};
+ghost use Rattle.qcert.specs.Reading.{IsInput, IsBadInput, input_of};
 ghost use Rattle.qcert.specs.Steps.{visit};
 ghost use Rattle.qcert.specs.inner.Promises.{HasItsType, Stage};
 
 use crate::job::Subject;
-use crate::reading::{input_in, query_in, schema_in};
+use crate::reading::{input_in, query_in, schema_in, tokens_in};
 use crate::refusal::{File, Refusal};
 use crate::sources::{Checked, Query, Source};
 use qc_io::{FetchFault, Shelf};
+use qc_lex::Words;
 use qc_types::{Schema, World};
 use std::alloc::Global;
 
@@ -91,8 +93,24 @@ fn query_file<S: Shelf>(
     ensures same { S.texts shelf.new ≡ S.texts shelf.old }
     ensures count { S.faults shelf.old ≤ S.faults shelf.new }
 {
+    let words = tokens_file(alloc, shelf, source, name)?;
+    query_in(alloc, source, schema, &words)
+}
+
+// The tokens in the query's file of this name.
+fn tokens_file<S: Shelf>(
+    alloc: Global,
+    shelf: &mut S,
+    source: Source,
+    name: &str,
+) -> Result<Words, Refusal>
+    ensures ended { Stage (tokens_in source name.now)
+        (visit S.texts S.faults S.asked shelf.old shelf.new) result }
+    ensures same { S.texts shelf.new ≡ S.texts shelf.old }
+    ensures count { S.faults shelf.old ≤ S.faults shelf.new }
+{
     let bytes = fetch(alloc, shelf, File::Query, name)?;
-    query_in(alloc, source, schema, &bytes)
+    tokens_in(alloc, source, &bytes)
 }
 
 // The input in the file of this name.

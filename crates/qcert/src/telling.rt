@@ -2,7 +2,7 @@
 ghost use Rattle.std.specs.Prelude.{◌≡◌, ◌≤◌, map};
 ghost use Rattle.qc_io.specs.Device.{Rose};
 ghost use Rattle.qcert.specs.Delivery.{file_word, put, Complains, IsPut};
-ghost use Rattle.qcert.specs.inner.Pieces.{joined};
+ghost use Rattle.qcert.specs.inner.Pieces.{all_pieces};
 
 use crate::refusal::{File, Refusal};
 use itoa::Buffer;
@@ -46,7 +46,7 @@ pub fn tell<E: Sink>(refusal: Refusal, err: &mut E)
 // Puts the pieces one after another, or a front of all where the sink fails.
 fn put_all<E: Sink>(pieces: &[&str], err: &mut E) -> Result<(), Failed>
     ensures bytes { IsPut (E.written err.old) (E.written err.new) (Rose (E.faults err.old) (E.faults err.new))
-        (joined (map (λ piece. piece.now) pieces.now)) }
+        (all_pieces (map (λ piece. piece.now) pieces.now)) }
     ensures count { E.faults err.old ≤ E.faults err.new }
 {
     match pieces {

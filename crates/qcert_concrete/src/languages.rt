@@ -1,5 +1,6 @@
 // Two small languages and a pass each way: numbers, and sums of two numbers.
-use qc_data::{Datum, Halt, Memory};
+use qc_containers::Memory;
+use qc_data::{Datum, Halt};
 use qc_lang::{Lang, Pass};
 use qc_types::{Schema, World};
 use std::alloc::Global;

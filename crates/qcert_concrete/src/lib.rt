@@ -1,4 +1,4 @@
-//! Traits and generic calls at concrete types, where no other crate has one yet: two languages, a pass each way, and the passes as one.
+//! Traits and generic calls at concrete types where no other crate has one yet: languages, and passes between them.
 #![tactic(auto)]
 
 #[cfg(test)]

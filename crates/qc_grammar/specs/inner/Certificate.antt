@@ -1,14 +1,16 @@
 -- Whether a table tells its words by the next token: a check of each alternative by itself, with what is noted of the
 -- rules. Below g has the rules, o on what each alternative is chosen, c the notes, and f what may come behind.
-use Rattle.std.specs.Prelude.{ℕ, zero, suc, ◌+◌, Bool, true, false, cond, if◌then◌else◌, ◌&&◌, ◌||◌, not}
-use Rattle.std.specs.Prelude.{eqb, ltb, List, [], ◌∷◌, ◌++◌, length, Option, Some, None, slice_get}
+use Rattle.std.specs.Prelude.{ℕ, zero, suc, ◌+◌, ◌*◌, Bool, true, false, cond, ◌&&◌, ◌||◌, not}
+use Rattle.std.specs.Prelude.{eqb, ltb, List, [], ◌∷◌, length, map, Option, Some, None, slice_get}
 use Rattle.qc_grammar.specs.declared.symbol.Symbol.{Symbol}
 use Rattle.qc_grammar.specs.declared.symbol.Symbol.TheVariants.{Token, Rule, Action}
 use Rattle.qc_grammar.specs.inner.Derivations.{Rules, alternatives}
-use Rattle.qc_grammar.specs.inner.Machine.{Choices, choices_of, member}
+use Rattle.qc_grammar.specs.inner.Machine.{Table, body_at, row, turn, member}
 
 -- what is noted of a rule
 pub record Note : Type 0 where
+  -- the places of its alternatives
+  pub places : List ℕ
   -- what may come next behind the rule: 0 is the end, and suc k a token of the kind k
   pub follow : List ℕ
   -- an alternative that leads to a word
@@ -27,7 +29,10 @@ Notes = List Note
 -- what is noted, or nothing
 abbrev pub noted : Option Note → Note
 noted (Some note) = note
-noted None = record { follow = []; seed = 0; rank = 0; weight = 0; solid = false }
+noted None = record { places = []; follow = []; seed = 0; rank = 0; weight = 0; solid = false }
+
+abbrev pub places_of : Notes → ℕ → List ℕ
+places_of c n = (noted (slice_get c n)).places
 
 abbrev pub follow_of : Notes → ℕ → List ℕ
 follow_of c n = (noted (slice_get c n)).follow
@@ -44,44 +49,45 @@ weight_of c n = (noted (slice_get c n)).weight
 abbrev pub solid_of : Notes → ℕ → Bool
 solid_of c n = (noted (slice_get c n)).solid
 
+-- the rules of the table, by the places of their alternatives
+unfoldable pub rules : Table → Notes → Rules
+rules o c = map (λ note. map (body_at o) note.places) c
+
 -- ---- sets of what may come next
 
--- on what any of the alternatives is chosen
-abbrev pub all_choices : List (List ℕ) → List ℕ
-all_choices [] = []
-all_choices (o ∷ os) = o ++ all_choices os
-
--- one more, unless it is 0
-abbrev pub bump : ℕ → ℕ
-bump zero = 0
-bump (suc n) = suc (suc n)
-
--- one more than the number of the alternative that is chosen on this, or 0
-abbrev pub turn : List (List ℕ) → ℕ → ℕ
-turn [] k = 0
-turn (o ∷ os) k = if member k o then 1 else bump (turn os k)
+-- on what any alternative is chosen, of a row from this number on
+abbrev pub chosen_from : ℕ → List ℕ → List ℕ
+chosen_from k [] = []
+chosen_from k (zero ∷ ts) = chosen_from (suc k) ts
+chosen_from k (suc p ∷ ts) = k ∷ chosen_from (suc k) ts
 
 -- each of the first set is in the second
 abbrev pub within : List ℕ → List ℕ → Bool
 within [] t = true
 within (k ∷ s) t = member k t && within s t
 
--- on each of the set this alternative is chosen
-abbrev pub leads : List ℕ → ℕ → List (List ℕ) → Bool
-leads [] p os = true
-leads (k ∷ s) p os = eqb (turn os k) (suc p) && leads s p os
+-- on each of the set the alternative at this place is chosen
+abbrev pub leads : List ℕ → ℕ → List ℕ → Bool
+leads [] p ts = true
+leads (k ∷ s) p ts = eqb (turn ts k) (suc p) && leads s p ts
+
+-- a row names these places alone
+abbrev pub names : List ℕ → List ℕ → Bool
+names [] ps = true
+names (zero ∷ ts) ps = names ts ps
+names (suc p ∷ ts) ps = member p ps && names ts ps
 
 -- by what the symbols may begin
-abbrev pub begins : Choices → List Symbol → List ℕ → List ℕ
+abbrev pub begins : Table → List Symbol → List ℕ → List ℕ
 begins o [] f = f
 begins o (Token k ∷ σ) f = suc k ∷ []
-begins o (Rule n ∷ σ) f = all_choices (choices_of o n)
+begins o (Rule n ∷ σ) f = chosen_from 0 (row o n)
 begins o (Action a ∷ σ) f = begins o σ f
 
 -- ---- the checks of an alternative
 
 -- what may come behind each rule in the symbols is noted to follow it
-abbrev pub follows : Rules → Choices → Notes → List ℕ → List Symbol → Bool
+abbrev pub follows : Rules → Table → Notes → List ℕ → List Symbol → Bool
 follows g o c f [] = true
 follows g o c f (Token k ∷ σ) = follows g o c f σ
 follows g o c f (Rule n ∷ σ) =
@@ -109,18 +115,18 @@ ranked g c r (Token k ∷ σ) = ranked g c r σ
 ranked g c r (Rule n ∷ σ) = ltb n (length g) && (ltb (rank_of c n) r && ranked g c r σ)
 ranked g c r (Action a ∷ σ) = ranked g c r σ
 
--- the alternative p of the rule n: it is chosen on all by which it may begin, its rules may be followed so, it takes
--- few steps before a token, and it has a token if the rule is to have one
-abbrev pub good : Rules → Choices → Notes → ℕ → ℕ → List Symbol → Bool
-good g o c n p body = leads (begins o body (follow_of c n)) p (choices_of o n)
+-- the alternative at the place p, of the rule n: it is chosen on all by which it may begin, its rules may be followed
+-- so, it takes few steps before a token, and it has a token if the rule is to have one
+abbrev pub good : Rules → Table → Notes → ℕ → ℕ → List Symbol → Bool
+good g o c n p body = leads (begins o body (follow_of c n)) p (row o n)
     && (follows g o c (follow_of c n) body
     && (ltb (steps c body) (weight_of c n)
     && (not (solid_of c n) || stops c body)))
 
--- the alternatives of the rule n, from the one with the number p on
-abbrev pub all_good : Rules → Choices → Notes → ℕ → ℕ → List (List Symbol) → Bool
-all_good g o c n p [] = true
-all_good g o c n p (b ∷ bs) = good g o c n p b && all_good g o c n (suc p) bs
+-- the alternatives at these places
+abbrev pub all_good : Rules → Table → Notes → ℕ → List ℕ → Bool
+all_good g o c n [] = true
+all_good g o c n (p ∷ ps) = good g o c n p (body_at o p) && all_good g o c n ps
 
 -- the seed is an alternative, of rules of less rank
 abbrev pub sown : Rules → Notes → ℕ → Option (List Symbol) → Bool
@@ -128,12 +134,18 @@ sown g c r None = false
 sown g c r (Some b) = ranked g c r b
 
 -- the rules from the one with the number n on
-abbrev pub all_rules : Rules → Choices → Notes → ℕ → List (List (List Symbol)) → Bool
+abbrev pub all_rules : Rules → Table → Notes → ℕ → List (List (List Symbol)) → Bool
 all_rules g o c n [] = true
-all_rules g o c n (e ∷ es) = all_good g o c n 0 (alternatives g n)
+all_rules g o c n (e ∷ es) = all_good g o c n (places_of c n)
+    && (names (row o n) (places_of c n)
     && (sown g c (rank_of c n) (slice_get (alternatives g n) (seed_of c n))
-    && all_rules g o c (suc n) es)
+    && all_rules g o c (suc n) es))
 
--- the table is exact: its rules pass, there is one, and behind the start may be the end
-abbrev pub is_exact : Rules → Choices → Notes → Bool
-is_exact g o c = all_rules g o c 0 g && (ltb 0 (length g) && member 0 (follow_of c 0))
+-- all rules pass, there is one, behind the start may be the end, and there is no row besides
+abbrev pub passes : Rules → Table → Notes → Bool
+passes g o c = all_rules g o c 0 g
+    && (ltb 0 (length g) && (member 0 (follow_of c 0) && ltb (length o.turns) (suc (length g * o.width))))
+
+-- the table is exact
+abbrev pub is_exact : Table → Notes → Bool
+is_exact o c = passes (rules o c) o c

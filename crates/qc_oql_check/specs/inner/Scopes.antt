@@ -1,7 +1,7 @@
 -- What scopes and private answers of the code stand for.
 use Rattle.std.specs.Prelude.{◌≡◌, ℕ, ◌&&◌, not, is_some, List, [], ◌∷◌, map, cond, Result, Ok, Err}
-use Rattle.qc_data.specs.Name.{is_name}
-use Rattle.qc_data.specs.Pairs.{lookup, put}
+use Rattle.qc_containers.specs.Name.{is_name}
+use Rattle.qc_containers.specs.Pairs.{lookup, put}
 use Rattle.qc_types.specs.declared.ty.Ty.{Ty}
 use Rattle.qc_typing.specs.declared.fault.TypeFault.{TypeFault}
 use Rattle.qc_typing.specs.declared.fault.TypeFault.TheVariants as fault

@@ -2,6 +2,6 @@
 use Rattle.std.specs.Prelude.{ℕ, List, [], ◌∷◌, ◌++◌}
 
 -- the pieces, one behind the other
-abbrev pub joined : List (List ℕ) → List ℕ
-joined [] = []
-joined (piece ∷ pieces) = piece ++ joined pieces
+abbrev pub all_pieces : List (List ℕ) → List ℕ
+all_pieces [] = []
+all_pieces (piece ∷ pieces) = piece ++ all_pieces pieces

@@ -10,7 +10,7 @@ use Rattle.qcert.specs.declared.refusal.Refusal.TheVariants.{Memory}
 use Rattle.qcert.specs.declared.sources.Query.{Query}
 use Rattle.qcert.specs.Sources.{meaning_of, type_of}
 use Rattle.qcert.specs.Steps.{Step, Visit, Ended}
-use Rattle.qcert.specs.Work.{Work, Gives, Refuses, IsClear}
+use Rattle.qcert.specs.Work.{Work, IsTextFor, Refuses, IsClear}
 
 -- the step ended so, also where it is told of counts of faults from earlier and later
 abbrev pub Stage : {A : Type 0} → Step A → Visit → Result A Refusal → Type 0
@@ -23,7 +23,7 @@ Computes Accepts Refuses result = MatchResult result Accepts (λ r. Refuses r �
 
 -- the work was done
 abbrev pub Acts : {T : Type 0} → (T → List ℕ) → Work → Result T Refusal → Type 0
-Acts bytes work result = Computes (λ text. Gives work (bytes text) × IsClear work) (Refuses work) result
+Acts bytes work result = Computes (λ text. IsTextFor work (bytes text) × IsClear work) (Refuses work) result
 
 -- in each world of the schema the query has a value of its type at any size, and within bounds the same value or Range
 abbrev pub HasItsType : SchemaOf → Query → Type 0

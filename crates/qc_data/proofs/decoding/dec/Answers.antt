@@ -8,4 +8,5 @@ ok_at (Ok x) t P e p = subst P (sym e) p
 ok_at (Err x) t P e p = tt
 
 pub returns-clause-inverse : goal.returns-clause-inverse
-returns-clause-inverse c = ok_at c.decode.result (dec c.args.j.now) (Decodes c.args.j.now) c.decode.ensures (inverse c.args.j.now)
+returns-clause-inverse c =
+    ok_at c.decode.result (dec c.args.j.now) (Decodes c.args.j.now) c.decode.ensures (inverse c.args.j.now)

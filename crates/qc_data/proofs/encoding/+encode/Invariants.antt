@@ -1,6 +1,6 @@
 use Rattle.std.proofs.Common.{◌≡◌, take, map}
 use Rattle.qc_data.specs.Encoding.{enc}
-use Rattle.qc_data.specs.Rising.{on_value}
+use Rattle.qc_containers.specs.Rising.{on_value}
 use Rattle.qc_data.proofs.encoding.+encode.Given as goal
 
 abbrev pub invariant-enc_fields-loop-pair : goal.invariant-enc_fields-loop-pair

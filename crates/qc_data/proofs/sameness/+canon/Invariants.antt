@@ -1,6 +1,6 @@
 use Rattle.std.proofs.Common.{◌≡◌, take, map}
 use Rattle.qc_data.specs.Order.{canon}
-use Rattle.qc_data.specs.Rising.{on_value}
+use Rattle.qc_containers.specs.Rising.{on_value}
 use Rattle.qc_data.proofs.sameness.+canon.Given as goal
 
 abbrev pub invariant-canon_fields-loop-pair : goal.invariant-canon_fields-loop-pair

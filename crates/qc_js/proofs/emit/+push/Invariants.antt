@@ -1,7 +1,7 @@
 use Rattle.std.proofs.Common.{◌≡◌, ◌++◌, true, map, take}
 use Rattle.std.specs.String.{string_bytes}
 use Rattle.qc_js.specs.Program.{all_true}
-use Rattle.qc_js.specs.Text.{parts, expr_text, fits}
+use Rattle.qc_js.specs.inner.Text.{parts, expr_text, fits}
 use Rattle.qc_js.proofs.emit.+push.Given as goal
 
 abbrev pub invariant-push_parts-loop-i : goal.invariant-push_parts-loop-i

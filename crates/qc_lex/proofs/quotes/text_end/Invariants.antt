@@ -1,5 +1,5 @@
 use Rattle.std.proofs.Common.{◌≡◌, false, drop}
-use Rattle.qc_lex.specs.Steps.{text_end}
+use Rattle.qc_lex.specs.inner.Steps.{text_end}
 use Rattle.qc_lex.proofs.quotes.text_end.Given as goal
 
 abbrev pub invariant-loop-at : goal.invariant-loop-at

@@ -7,4 +7,6 @@ use Rattle.qc_ops.proofs.Folds.{fold_ints, extreme}
 use Rattle.qc_ops.proofs.aggregates.greatest.Given as goal
 
 abbrev pub invariant-loop-item : goal.invariant-loop-item
-invariant-loop-item l = and_then (each as_int l.items) (λ ns. Value (greatest_of ns)) ≡ fold_ints (extreme int_max) l.greatest (drop l.item-index l.items)
+invariant-loop-item l =
+    and_then (each as_int l.items) (λ ns. Value (greatest_of ns))
+    ≡ fold_ints (extreme int_max) l.greatest (drop l.item-index l.items)

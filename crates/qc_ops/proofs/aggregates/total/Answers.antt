@@ -9,7 +9,9 @@ pub loop-item-preserved : goal.loop-item-preserved
 loop-item-preserved c =
     let fits : SFits w64 c.in_ok-n.n = search rules in
     record {
-      left = c.loop-item.invariant.left ∙ fold_more plus c.args.items.now c.item-item.result c.loop-item.item-index (to_z w128 c.loop-item.total-bits) c.in_ok-n.n _ c.item-item.is c.in_ok-n.ensures c.loop-item-test.true (omega (arith, ints));
+      left = c.loop-item.invariant.left ∙ fold_more plus c.args.items.now c.item-item.result c.loop-item.item-index
+          (to_z w128 c.loop-item.total-bits) c.in_ok-n.n _ c.item-item.is c.in_ok-n.ensures c.loop-item-test.true
+          (omega (arith, ints));
       low = omega (arith, ints);
       high = omega (arith, ints);
     }

@@ -8,4 +8,6 @@ use Rattle.qc_ops.proofs.grouping.groups.Given as goal
 
 abbrev pub invariant-loop-at : goal.invariant-loop-at
 invariant-loop-at l =
-    each (group_of l.g (zip l.keys l.rows)) (firsts l.keys) ≡ gather_from (λ key. alone (group_of l.g (zip l.keys l.rows) key)) l.all (kept_by (λ k key. k == 1) (take l.at l.keys) (drop l.at l.keys))
+    each (group_of l.g (zip l.keys l.rows)) (firsts l.keys)
+    ≡ gather_from (λ key. alone (group_of l.g (zip l.keys l.rows) key)) l.all
+    (kept_by (λ k key. k == 1) (take l.at l.keys) (drop l.at l.keys))

@@ -5,4 +5,5 @@ use Rattle.qc_ops.specs.Records.{projection}
 use Rattle.qc_ops.proofs.grouping.keys_of.Given as goal
 
 abbrev pub invariant-loop-row : goal.invariant-loop-row
-invariant-loop-row l = each (projection l.names) l.rows ≡ gather_from (λ x. alone (projection l.names x)) l.keys (drop l.row-index l.rows)
+invariant-loop-row l =
+    each (projection l.names) l.rows ≡ gather_from (λ x. alone (projection l.names x)) l.keys (drop l.row-index l.rows)

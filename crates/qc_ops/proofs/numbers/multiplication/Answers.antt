@@ -10,4 +10,9 @@ returns c =
     let fits' : SFits w64 c.in_ok-y.y = search rules in
     let wide : SFits w128 c.from.result = search rules in
     let wide' : SFits w128 c.from-2.result = search rules in
-    rw (c.in_ok-x.ensures, c.in_ok-y.ensures, ← product_is c.in_ok-x.x c.in_ok-y.y c.from.result c.from-2.result fits fits' wide wide' c.from.ensures c.from-2.ensures) c.made.ensures
+    rw (
+      c.in_ok-x.ensures,
+      c.in_ok-y.ensures,
+      ← product_is c.in_ok-x.x c.in_ok-y.y c.from.result c.from-2.result fits fits' wide wide' c.from.ensures
+          c.from-2.ensures,
+    ) c.made.ensures

@@ -2,7 +2,7 @@ use Rattle.std.proofs.Common.{◌≡◌, ◌≤◌, length}
 use Rattle.std.specs.Prelude.{chars}
 use denote.Shadow.{shadow}
 use denote.Text.{Utf8}
-use Rattle.qc_ops.specs.Likeness.{passed}
+use Rattle.qc_ops.specs.inner.Likeness.{passed}
 use Rattle.qc_ops.proofs.pattern.pass.Given as goal
 
 abbrev pub invariant-loop-p : goal.invariant-loop-p

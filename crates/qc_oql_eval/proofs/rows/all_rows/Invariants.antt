@@ -1,5 +1,5 @@
 use Rattle.std.proofs.Common.{◌≡◌, take}
-use Rattle.qc_ops.specs.Columns.{behind}
+use Rattle.qc_ops.specs.inner.Columns.{behind}
 use Rattle.qc_oql_eval.proofs.rows.all_rows.Given as goal
 
 abbrev pub invariant-loop-row : goal.invariant-loop-row

@@ -7,4 +7,5 @@ pub returns-clause-parses : goal.returns-clause-parses
 returns-clause-parses c = parses (lexemes c.args.words.now) c.by_table.result c.by_table.ensures
 
 pub returns-clause-small : goal.returns-clause-small
-returns-clause-small c = small c.args.words.now c.by_table.result (parses (lexemes c.args.words.now) c.by_table.result c.by_table.ensures)
+returns-clause-small c =
+    small c.args.words.now c.by_table.result (parses (lexemes c.args.words.now) c.by_table.result c.by_table.ensures)

@@ -8,4 +8,5 @@ use Rattle.qc_oql_text.proofs.tokens.before.Goals as goal
 pub returns-clause-token : goal.returns-clause-token
 returns-clause-token c =
     let place : c.saturating_sub.result ≡ pred c.args.count = search rules in
-    same_token c.args.words.now c.saturating_sub.result ∙ ap (λ n. token_or (slice_get (lexemes c.args.words.now) n)) place
+    same_token c.args.words.now c.saturating_sub.result
+    ∙ ap (λ n. token_or (slice_get (lexemes c.args.words.now) n)) place

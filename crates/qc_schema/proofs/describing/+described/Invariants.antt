@@ -1,5 +1,5 @@
 use Rattle.std.proofs.Common.{◌≡◌, take, map}
-use Rattle.qc_data.specs.Rising.{on_value}
+use Rattle.qc_containers.specs.Rising.{on_value}
 use Rattle.qc_schema.specs.TypeText.{tree_of}
 use Rattle.qc_schema.proofs.describing.+described.Given as goal
 

@@ -1,16 +1,19 @@
 use Rattle.std.proofs.Common.{◌≡◌, ◌++◌, drop, option_map}
 use Rattle.serde_json.specs.View.{items_view, members_view}
 use Rattle.qc_schema.specs.Reading.{of_items, of_members}
-use Rattle.qc_data.specs.Rising.{Rising}
+use Rattle.qc_containers.specs.Rising.{Rising}
 use Rattle.qc_schema.proofs.Converted.{keyed}
-use Rattle.qc_data.proofs.Appending.{names}
+use Rattle.qc_containers.proofs.Appending.{names}
 use Rattle.qc_schema.proofs.reading.+convert.Given as goal
 
 abbrev pub invariant-convert_items-loop-item : goal.invariant-convert_items-loop-item
-invariant-convert_items-loop-item l = of_items (items_view l.item-items) ≡ option_map (λ js. l.all ++ js) (of_items (items_view (drop l.item-index l.item-items)))
+invariant-convert_items-loop-item l =
+    of_items (items_view l.item-items) ≡ option_map (λ js. l.all ++ js)
+    (of_items (items_view (drop l.item-index l.item-items)))
 
 abbrev pub invariant-convert_members-loop-key : goal.invariant-convert_members-loop-key
 invariant-convert_members-loop-key l = record {
   rising : Rising (names l.all ++ keyed l.key-iterator);
-  done : of_members (members_view l.members.entries) ≡ option_map (λ ms. l.all ++ ms) (of_members (members_view l.key-iterator));
+  done : of_members (members_view l.members.entries)
+      ≡ option_map (λ ms. l.all ++ ms) (of_members (members_view l.key-iterator));
 }

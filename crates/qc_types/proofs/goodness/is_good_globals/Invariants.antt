@@ -6,5 +6,5 @@ use Rattle.qc_types.proofs.goodness.is_good_globals.Given as goal
 abbrev pub invariant-loop-pair : goal.invariant-loop-pair
 invariant-loop-pair l = record {
   whole : l.pair-items ≡ l.globals;
-  left : good_globals l.defs l.globals ≡ good_globals l.defs (drop l.pair-index l.pair-items);
+  left : good_globals l.index l.globals ≡ good_globals l.index (drop l.pair-index l.pair-items);
 }

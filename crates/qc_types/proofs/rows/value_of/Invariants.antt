@@ -1,6 +1,6 @@
 use Rattle.std.proofs.Common.{◌≡◌, length}
-use Rattle.qc_data.specs.Pairs.{lookup}
-use Rattle.qc_data.specs.Rising.{Rising}
+use Rattle.qc_containers.specs.Pairs.{lookup}
+use Rattle.qc_containers.specs.Rising.{Rising}
 use Rattle.qc_types.proofs.rows.value_of.Given as goal
 
 -- the name stands in what is left, if anywhere

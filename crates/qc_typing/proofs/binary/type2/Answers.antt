@@ -2,4 +2,6 @@ use Rattle.qc_typing.proofs.Answered.{answered_binary}
 use Rattle.qc_typing.proofs.binary.type2.Goals as goal
 
 pub returns-clause-sound : goal.returns-clause-sound
-returns-clause-sound c = answered_binary c.args.classes.now c.len-len.ensures.good c.args.op.now c.args.a.now c.args.b.now c.binary_type.result c.binary_type.ensures
+returns-clause-sound c =
+    answered_binary c.args.classes.now c.len-len.ensures.good c.args.op.now c.args.a.now c.args.b.now
+    c.binary_type.result c.binary_type.ensures

@@ -1,16 +1,19 @@
 use Rattle.std.proofs.Common.{◌≡◌, None, Some, sym, ap, ◌∙◌}
 use Rattle.std.specs.Prelude.{option_map}
 use Rattle.qc_js.specs.declared.tree.Expr.TheVariants.{Array}
-use Rattle.qcert.specs.Lowering.{lowered}
+use Rattle.qcert.specs.Lowering.{lower}
 use Rattle.qcert.proofs.Bags.{members_more, no_members}
 use Rattle.qcert.proofs.lower.+lower.Goals as goal
 
 pub lower_bag-returns-in_default : goal.lower_bag-returns-in_default
 lower_bag-returns-in_default t c =
-    let none : lowered c.query-item.result ≡ None = sym c.in_ok-expression.ensures ∙ c.in_default.is in
-    sym (ap (λ all. option_map Array all) (no_members c.args.queries.now c.loop-query.query-index c.query-item.result c.loop-query-test.true c.query-item.is none))
+    let none : lower c.query-item.result ≡ None = sym c.in_ok-expression.ensures ∙ c.in_default.is in
+    sym (ap (λ all. option_map Array all)
+    (no_members c.args.queries.now c.loop-query.query-index c.query-item.result c.loop-query-test.true
+    c.query-item.is none))
 
 pub lower_bag-loop-query-preserved : goal.lower_bag-loop-query-preserved
 lower_bag-loop-query-preserved t c =
-    let some : lowered c.query-item.result ≡ Some c.in-Some.expression = sym c.in_ok-expression.ensures ∙ c.in-Some.is in
-    members_more c.args.queries.now c.loop-query.query-index c.query-item.result c.loop-query-test.true c.query-item.is c.loop-query.all c.add.new.self c.in-Some.expression c.loop-query.invariant some c.in_ok-add.ensures.ok
+    let some : lower c.query-item.result ≡ Some c.in-Some.expression = sym c.in_ok-expression.ensures ∙ c.in-Some.is in
+    members_more c.args.queries.now c.loop-query.query-index c.query-item.result c.loop-query-test.true c.query-item.is
+    c.loop-query.all c.add.new.self c.in-Some.expression c.loop-query.invariant some c.in_ok-add.ensures.ok

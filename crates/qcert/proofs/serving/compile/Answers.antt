@@ -11,4 +11,5 @@ returns-in_err-checked-clause-ended g c =
 pub returns-clause-ended : goal.returns-clause-ended
 returns-clause-ended g c =
     acted _ _ string_bytes c.program_text.result _ _ _ _ _ c.in_ok-checked.ensures.count
-    (made _ _ c.in_ok-checked.checked _ _ _ _ _ c.in_ok-checked.ensures.count c.in_ok-checked.ensures.ended) c.program_text.ensures
+    (made _ _ c.in_ok-checked.checked _ _ _ _ _ c.in_ok-checked.ensures.count c.in_ok-checked.ensures.ended)
+    c.program_text.ensures

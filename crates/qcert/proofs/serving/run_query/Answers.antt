@@ -1,7 +1,7 @@
 use Rattle.std.specs.String.{string_bytes}
 use Rattle.std.proofs.lemmas.Result.{err_from_is_err_and}
 use Rattle.qcert.proofs.StageLemmas.{stops, goes, made, acted, up, itself}
-use Rattle.qcert.proofs.JobLaws.{input_is_world}
+use Rattle.qcert.proofs.JobLaws.{input_of_schema}
 use Rattle.qcert.proofs.serving.run_query.Goals as goal
 
 pub returns-in_err-checked-clause-ended : goal.returns-in_err-checked-clause-ended
@@ -13,14 +13,19 @@ pub returns-in_err-world-clause-ended : goal.returns-in_err-world-clause-ended
 returns-in_err-world-clause-ended g c =
     let exit = err_from_is_err_and c.from_residual-in_err-world.result c.from_residual-in_err-world.ensures.1 in
     rw (exit.1, exit.2) (stops _ _ _ _ _ _ _ _
-    (goes _ _ _ _ _ _ _ _ _ _ c.in_ok-checked.checked _ c.in_ok-checked.ensures.same c.in_ok-checked.ensures.count c.in_err-world.ensures.count
+    (goes _ _ _ _ _ _ _ _ _ _ c.in_ok-checked.checked _ c.in_ok-checked.ensures.same c.in_ok-checked.ensures.count
+    c.in_err-world.ensures.count
     c.in_ok-checked.ensures.ended (stops _ _ _ _ _ _ _ _ c.in_err-world.ensures.ended)))
 
 pub returns-clause-ended : goal.returns-clause-ended
 returns-clause-ended g c =
-    acted _ _ string_bytes c.answer_line.result _ _ _ _ _ (up _ _ _ c.in_ok-checked.ensures.count c.in_ok-world.ensures.count)
-    (goes _ _ _ _ _ _ _ _ _ _ c.in_ok-checked.checked _ c.in_ok-checked.ensures.same c.in_ok-checked.ensures.count c.in_ok-world.ensures.count
-    c.in_ok-checked.ensures.ended (made _ _ c.in_ok-world.world _ _ _ _ _ c.in_ok-world.ensures.count c.in_ok-world.ensures.ended)) c.answer_line.ensures
+    acted _ _ string_bytes c.answer_line.result _ _ _ _ _
+    (up _ _ _ c.in_ok-checked.ensures.count c.in_ok-world.ensures.count)
+    (goes _ _ _ _ _ _ _ _ _ _ c.in_ok-checked.checked _ c.in_ok-checked.ensures.same c.in_ok-checked.ensures.count
+    c.in_ok-world.ensures.count
+    c.in_ok-checked.ensures.ended (made _ _ c.in_ok-world.world _ _ _ _ _ c.in_ok-world.ensures.count
+    c.in_ok-world.ensures.ended)) c.answer_line.ensures
 
 pub answer_line-requires-clause-world : goal.answer_line-requires-clause-world
-answer_line-requires-clause-world g c = input_is_world _ _ _ _ (c.in_ok-world.ensures.ended _ _ (itself _) (itself _)).ends
+answer_line-requires-clause-world g c =
+    input_of_schema _ _ _ _ (c.in_ok-world.ensures.ended _ _ (itself _) (itself _)).ends.0

@@ -10,10 +10,13 @@ returns-in_err-schema-clause-ended g c =
 pub returns-in_err-query-clause-ended : goal.returns-in_err-query-clause-ended
 returns-in_err-query-clause-ended g c =
     let exit = err_from_is_err_and c.from_residual-in_err-query.result c.from_residual-in_err-query.ensures.1 in
-    rw (exit.1, exit.2) (goes _ _ _ _ _ _ _ _ _ _ c.in_ok-schema.schema _ c.in_ok-schema.ensures.same c.in_ok-schema.ensures.count c.in_err-query.ensures.count
+    rw (exit.1, exit.2) (goes _ _ _ _ _ _ _ _ _ _ c.in_ok-schema.schema _ c.in_ok-schema.ensures.same
+    c.in_ok-schema.ensures.count c.in_err-query.ensures.count
     c.in_ok-schema.ensures.ended (stops _ _ _ _ _ _ _ _ c.in_err-query.ensures.ended))
 
 pub returns-clause-ended : goal.returns-clause-ended
 returns-clause-ended g c =
-    goes _ _ _ _ _ _ _ _ _ _ c.in_ok-schema.schema _ c.in_ok-schema.ensures.same c.in_ok-schema.ensures.count c.in_ok-query.ensures.count
-    c.in_ok-schema.ensures.ended (made _ _ c.in_ok-query.query _ _ _ _ _ c.in_ok-query.ensures.count c.in_ok-query.ensures.ended)
+    goes _ _ _ _ _ _ _ _ _ _ c.in_ok-schema.schema _ c.in_ok-schema.ensures.same c.in_ok-schema.ensures.count
+    c.in_ok-query.ensures.count
+    c.in_ok-schema.ensures.ended (made _ _ c.in_ok-query.query _ _ _ _ _ c.in_ok-query.ensures.count
+    c.in_ok-query.ensures.ended)

@@ -8,4 +8,5 @@ returns-in-Some-clause-ended g c = rw c.in-Some.is c.input_file.ensures.ended
 
 pub returns-in-None-clause-ended : goal.returns-in-None-clause-ended
 returns-in-None-clause-ended g c =
-    rw c.in-None.is (computed (IsInput c.args.schema.now (codes "{}")) (IsBadInput c.args.schema.now (codes "{}")) _ _ _ _ (rw (sym c.as_bytes.ensures.value) c.input_in.ensures))
+    rw c.in-None.is (computed (IsInput c.args.schema.now (codes "{}"))
+    (IsBadInput c.args.schema.now (codes "{}")) _ _ _ _ (rw (sym c.as_bytes.ensures.value) c.input_in.ensures))

@@ -1,13 +1,16 @@
-use Rattle.std.proofs.Common.{sym}
 use Rattle.std.proofs.lemmas.Result.{err_from_is_err_and}
-use Rattle.qcert.proofs.StageLemmas.{unread, read}
+use Rattle.qcert.specs.Reading.{tokens_in, IsBadQuery}
+use Rattle.qcert.specs.Sources.{IsQuery}
+use Rattle.qcert.proofs.StageLemmas.{stops, computes}
 use Rattle.qcert.proofs.stages.query_file.Goals as goal
 
-pub returns-in_err-bytes-clause-ended : goal.returns-in_err-bytes-clause-ended
-returns-in_err-bytes-clause-ended g c =
+pub returns-in_err-words-clause-ended : goal.returns-in_err-words-clause-ended
+returns-in_err-words-clause-ended g c =
     let exit = err_from_is_err_and c.from_residual.result c.from_residual.ensures.1 in
-    rw (exit.1, exit.2) (unread _ _ _ _ _ _ _ _ _ _ c.in_err-bytes.ensures.ended)
+    rw (exit.1, exit.2) (stops _ _ _ _ _ _ _ _ c.in_err-words.ensures.ended)
 
 pub returns-clause-ended : goal.returns-clause-ended
 returns-clause-ended g c =
-    read _ _ _ _ _ _ _ _ _ c.in_ok-bytes.bytes.items _ c.in_ok-bytes.ensures.count c.in_ok-bytes.ensures.ended (rw (sym c.deref.ensures.value) c.query_in.ensures.reads)
+    computes (tokens_in c.args.source c.args.name.now) (IsQuery c.args.source c.args.schema.now)
+    (IsBadQuery c.args.source c.args.schema.now) _ _ _ _ _ c.in_ok-words.words _ c.in_ok-words.ensures.count
+    c.in_ok-words.ensures.ended c.query_in.ensures.reads

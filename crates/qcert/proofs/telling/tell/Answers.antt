@@ -43,5 +43,6 @@ returns-in-BadType g c = rw (c.in-BadType.is, sym c.format-in-BadType.ensures.te
 pub returns-in-BadScan : goal.returns-in-BadScan
 returns-in-BadScan g c =
     rw (c.in-BadScan.is, sym c.format-number.ensures.text, sym c.word-in-BadScan.ensures)
-    (subst (λ bytes. IsPut (g.E.Sink.written c.args.err.now) (g.E.Sink.written c.put_all-in-BadScan.new.err) (Rose (g.E.Sink.faults c.args.err.now) (g.E.Sink.faults c.put_all-in-BadScan.new.err)) bytes)
+    (subst (λ bytes. IsPut (g.E.Sink.written c.args.err.now) (g.E.Sink.written c.put_all-in-BadScan.new.err)
+    (Rose (g.E.Sink.faults c.args.err.now) (g.E.Sink.faults c.put_all-in-BadScan.new.err)) bytes)
     (scan_line c.format-number.result.now c.word-in-BadScan.result.now) c.put_all-in-BadScan.ensures.bytes)

@@ -1,0 +1,4 @@
+pub mod Appending
+pub mod Halves
+pub mod Putting
+pub mod Truth

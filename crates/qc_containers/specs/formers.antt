@@ -1,0 +1,5 @@
+pub mod boxed
+pub mod list
+pub mod name_map
+pub mod shared_list
+pub mod text_map

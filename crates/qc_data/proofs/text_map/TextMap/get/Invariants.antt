@@ -1,6 +1,0 @@
-use Rattle.std.proofs.Common.{◌≡◌, drop}
-use Rattle.qc_data.specs.Pairs.{lookup}
-use Rattle.qc_data.proofs.text_map.TextMap.get.Given as goal
-
-abbrev pub invariant-loop-pair : goal.invariant-loop-pair
-invariant-loop-pair g l = lookup l.name l.self ≡ lookup l.name (drop l.pair-index l.pair-items)

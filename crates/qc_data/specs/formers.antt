@@ -1,4 +1,0 @@
-pub mod boxed
-pub mod list
-pub mod name_map
-pub mod text_map

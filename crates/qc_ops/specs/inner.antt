@@ -1,0 +1,4 @@
+pub mod Beside
+pub mod Columns
+pub mod Keeping
+pub mod Likeness

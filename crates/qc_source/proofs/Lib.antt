@@ -1,0 +1,3 @@
+mod Places
+pub mod ScanLaws
+pub mod QueryLaws

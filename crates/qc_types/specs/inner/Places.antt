@@ -1,0 +1,77 @@
+-- Classes by their places in the order listed, counted from 0, as the index of a list of classes has them.
+use Rattle.std.specs.Prelude.{ℕ, suc, ◌-◌, ◌≡◌, false, List, [], ◌∷◌, Option, Some, None, cond}
+use Rattle.std.specs.Prelude.{drop, length, map, option_map, reverse, slice_get}
+use Rattle.std.specs.Str.{bytes_eq}
+use Rattle.qc_containers.specs.Pairs.{put}
+use Rattle.qc_types.specs.declared.index.Entry.{Entry}
+use Rattle.qc_types.specs.declared.index.Place.{Place}
+use Rattle.qc_types.specs.declared.ty.ClassDef.{ClassDef}
+use Rattle.qc_types.specs.Classes.{Defs, chain, is_in, listed, parents}
+
+-- the place of the class of a name
+abbrev pub place_of : Defs → List ℕ → Option ℕ
+place_of [] a = None
+place_of (d ∷ ds) a = cond (bytes_eq d.name a) (Some (length ds)) (place_of ds a)
+
+-- the place of a parent, if there is one and it is listed
+abbrev pub parent_place : Defs → Option (List ℕ) → Option ℕ
+parent_place ds None = None
+parent_place ds (Some p) = place_of ds p
+
+-- the classes listed before a place
+abbrev pub earlier : Defs → ℕ → Defs
+earlier c n = drop (length c - n) c
+
+-- each class beside its parent's place, the last listed first
+abbrev pub entries_of : Defs → List Entry
+entries_of [] = []
+entries_of (d ∷ ds) = record { def = d; parent = parent_place ds d.parent } ∷ entries_of ds
+
+-- the classes of entries in the order listed
+abbrev pub defs_of : List Entry → Defs
+defs_of es = reverse (map (λ e. e.def) es)
+
+-- the parent's place of an entry, if there is one
+abbrev pub parent_in : Option Entry → Option ℕ
+parent_in None = None
+parent_in (Some e) = e.parent
+
+-- the place of the parent of the class at a place
+abbrev pub parent_at : Defs → ℕ → Option ℕ
+parent_at c n = parent_in (slice_get (reverse (entries_of c)) n)
+
+-- the name of the first class and those of its ancestors, upward
+abbrev pub own_chain : Defs → List (List ℕ)
+own_chain [] = []
+own_chain (d ∷ ds) = d.name ∷ parents (λ p. chain ds p) d.parent
+
+-- the name of the class at a place and those of its ancestors, upward
+abbrev pub path : Defs → Option ℕ → List (List ℕ)
+path c None = []
+path c (Some n) = own_chain (earlier c (suc n))
+
+-- the first of the names ns that is one of the names ms
+abbrev pub first_in : List (List ℕ) → List (List ℕ) → Option (List ℕ)
+first_in ms [] = None
+first_in ms (n ∷ ns) = cond (is_in n ms) (Some n) (first_in ms ns)
+
+-- the name of the class at a place
+abbrev pub name_at : Defs → Option ℕ → Option (List ℕ)
+name_at c None = None
+name_at c (Some n) = option_map (λ d. d.name) (slice_get (reverse c) n)
+
+-- the places by name
+abbrev pub places_of : Defs → List (List ℕ × Place)
+places_of [] = []
+places_of (d ∷ ds) = put d.name (record { at = length ds }) (places_of ds)
+
+-- no class has the name of an earlier one
+abbrev pub New : Defs → Type 0
+New [] = Unit {0}
+New (d ∷ ds) = (listed ds d.name ≡ false) × New ds
+
+-- entries in the order listed and places by name that are those of one list of classes without a repeated name
+pub record IsIndex (entries : List Entry) (places : List (List ℕ × Place)) : Type 0 where
+  pub entries_are : entries ≡ reverse (entries_of (defs_of entries))
+  pub places_are : places ≡ places_of (defs_of entries)
+  pub names : New (defs_of entries)
