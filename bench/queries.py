@@ -1,5 +1,5 @@
 #!/usr/bin/env python3
-"""Times `check` of queries of about 1,000 tokens, and `run` over 100,000 rows and over 1,000 times 1,000 rows.
+"""Times `check` of queries of about 1,000 tokens and of large schemas, and `run` over 100,000 rows and over 1,000 times 1,000 rows.
 
 It lies outside the gate: run it by hand after `rt ci`. It runs `bin/qcert`, which is built first where it is stale, on files in a
 folder for temporary files. A machine that does other work makes the times longer.
@@ -30,8 +30,28 @@ CHECKS = [
     ("a struct of 249 fields", "struct(" + ", ".join("f%d: %d" % (i, i) for i in range(249)) + ")"),
     ("a bag of 498", "bag(" + ", ".join(str(i) for i in range(498)) + ")"),
     ("a select of 165 sources", "select 1 from " + ", ".join("x%d in bag()" % i for i in range(165))),
+    ("71 definitions that double their type", "".join("define b%d as struct(x: %s, y: %s); " % (i, e, e) for i, e in enumerate(["1"] + ["b%d" % j for j in range(70)])) + "1"),
     ("124 definitions", "".join("define d%d as %s; " % (i, "1" if i == 0 else "d%d + 1" % (i - 1)) for i in range(124)) + "d123"),
 ]
+
+
+def classes(count):
+    return '{"version":1,"classes":[%s],"globals":{}}' % ",".join('{"name":"C%05d","parent":null,"type":{"record":{"a":"int"}}}' % i for i in range(count))
+
+
+def globals_of(count):
+    return '{"version":1,"classes":[],"globals":{%s}}' % ",".join('"g%05d":"int"' % i for i in range(count))
+
+
+SCHEMAS = [("%d classes" % n, "1", classes(n)) for n in (1000, 2000, 4000)]
+SCHEMAS.append(("400 uses of the last of 4,000 globals", " + ".join(["g03999"] * 400), globals_of(4000)))
+MEMBERS = '{"version":1,"classes":[],"globals":{"rs":{"bag":{"record":{"a":"int","b":"int"}}},"xs":{"bag":"int"}}}'
+
+
+def members(count):
+    """Integers without order, and records of them."""
+    mixed = [i * 7919 % count for i in range(count)]
+    return '{"rs":[%s],"xs":[%s]}' % (",".join('{"a":%d,"b":%d}' % (n, n % 3) for n in mixed), ",".join(map(str, mixed)))
 
 
 def employees(count):
@@ -44,6 +64,10 @@ def pairs(count):
 
 
 RUNS = [
+    ("reading 100,000 integers and records", "count(xs)", MEMBERS, members(100000)),
+    ("distinct of 100,000 integers", "count(distinct(xs))", MEMBERS, members(100000)),
+    ("distinct of 100,000 records", "count(distinct(rs))", MEMBERS, members(100000)),
+    ("except of 100,000 integers", "count(xs except xs)", MEMBERS, members(100000)),
     ("filter and sort of 100,000 rows", "select x.name from x in emp where x.age > 30 order by x.age desc, x.name", EMPLOYEES, employees(100000)),
     ("join of 1,000 and 1,000 rows", "select struct(v: x.v, w: y.w) from x in a, y in b where x.k = y.k", PAIRS, pairs(1000)),
     ("join by a nested select", "select struct(v: x.v, ws: (select y.w from y in b where y.k = x.k)) from x in a", PAIRS, pairs(1000)),
@@ -69,6 +93,11 @@ def main():
         for title, query in CHECKS:
             (folder / "q").write_text(query)
             seconds, most = measure("check --source oql --query q".split(), folder)
+            print("check, %s: %.3f s, %.0f MiB" % (title, seconds, most / 2**20))
+        for title, query, schema in SCHEMAS:
+            (folder / "q").write_text(query)
+            (folder / "s").write_text(schema)
+            seconds, most = measure("check --source oql --query q --schema s".split(), folder)
             print("check, %s: %.3f s, %.0f MiB" % (title, seconds, most / 2**20))
         for title, query, schema, text in RUNS:
             (folder / "q").write_text(query)

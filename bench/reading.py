@@ -14,7 +14,7 @@ import tempfile
 import time
 
 TOP = pathlib.Path(__file__).resolve().parent.parent
-CRATES = ["qc_data", "qc_io", "qc_types", "qc_schema"]
+CRATES = ["qc_containers", "qc_data", "qc_io", "qc_types", "qc_schema"]
 SCHEMA = '{"version":1,"classes":[],"globals":{"emp":{"bag":{"record":{"age":"int","dept":"text","name":"text"}}}}}'
 MAIN = """//! Reads the input `input` in the schema `schema`, so often as the one word says, and prints how often it was a world.
 #![tactic(auto)]
