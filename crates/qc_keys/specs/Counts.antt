@@ -16,3 +16,8 @@ count c (e ∷ es) = cond (equal c e.0) e.1 (count c es)
 -- the tally has as many of each key as the list
 abbrev pub Tallies : List (Datum × ℕ) → List Datum → Type 0
 Tallies tally keys = (c : Datum) → count c tally ≡ count_by (equal c) keys
+
+-- what is gathered at the key
+abbrev pub gathered : Datum → List (Datum × List Datum) → List Datum
+gathered c [] = []
+gathered c (e ∷ es) = cond (equal c e.0) e.1 (gathered c es)

@@ -10,8 +10,9 @@ ghost use Rattle.qc_keys.specs.Counts.{equal};
 ghost use Rattle.qc_keys.specs.inner.Writes.{writes};
 
 use crate::feeding::feed;
+use crate::plain::canon_of;
 use qc_containers::Memory;
-use qc_data::{Datum, canon, cmp};
+use qc_data::{Datum, cmp, copy};
 use std::alloc::Global;
 use std::hash::{Hash, Hasher};
 use std::marker::Model;
@@ -40,7 +41,15 @@ impl Key {
     pub fn of(alloc: Global, d: &Datum) -> Result<Key, Memory>
         ensures { IfOk result (λ key. key ≡ canon d.now) }
     {
-        let canon = canon(alloc, d)?;
+        let canon = canon_of(alloc, d)?;
+        Ok(Key { canon })
+    }
+
+    /// The same key, which shares the datum.
+    pub fn copy(&self, alloc: Global) -> Result<Key, Memory>
+        ensures { IfOk result (λ key. key ≡ self.now) }
+    {
+        let canon = copy(alloc, &self.canon)?;
         Ok(Key { canon })
     }
 }

@@ -1,29 +1,33 @@
 -- Rows grouped by keys, and what is grouped by canons.
 use Rattle.std.proofs.Common.{◌≡◌, ℕ, suc, ◌+◌, ◌<◌, Bool, true, false, cond, List, [], ◌∷◌, ◌++◌, map, length, take}
-use Rattle.std.proofs.Common.{drop, get_or, None, refl, sym, ap, subst, ◌∙◌, true≢false, arith}
-use Rattle.std.specs.Prelude.{◌==◌, count_by, filter, zip}
+use Rattle.std.proofs.Common.{drop, get_or, None, refl, sym, ap, subst, ◌∙◌, true≢false, arith, append_assoc}
+use Rattle.std.proofs.Common.{append-nil, ◌≤◌, ◌≢◌}
+use Rattle.std.proofs.lemmas.Bool.Decides.{nat_tests}
+use Rattle.std.specs.Prelude.{◌==◌, filter, zip}
 use Rattle.std.proofs.lemmas.List.{get_or-map}
 use Rattle.std.specs.List.{AllByRecursion}
-use Rattle.std.specs.Ordering.{is_eq}
 use Rattle.std.specs.Str.{bytes_eq}
 use Rattle.std.proofs.lemmas.Slice.Eq.{bytes_eq-Decides}
 use Rattle.qc_data.proofs.KindLaws.{out-Rec}
 use Rattle.qc_data.proofs.Outcomes.{bind_assoc, gather_from}
 use Rattle.qc_data.specs.Kinds.{as_coll}
-use Rattle.qc_data.specs.Order.{canon, cmp}
+use Rattle.qc_data.specs.Order.{canon}
 use Rattle.qc_data.specs.Outcome.{Outcome, Value, Halts, and_then, alone, each}
 use Rattle.qc_containers.specs.Pairs.{lookup, put}
 use Rattle.qc_data.specs.declared.data.Datum.{Datum}
 use Rattle.qc_data.specs.declared.data.Datum.TheVariants.{Coll, Rec}
+use Rattle.qc_keys.specs.Counts.{count, equal, gathered, Tallies}
+use Rattle.qc_keys.proofs.Counting.{Tallies-none}
 use Rattle.qc_ops.specs.Bags.{firsts, kept_by}
 use Rattle.qc_ops.specs.Grouping.{keyed, rows_of, group_of, grouped, Lacks}
-use Rattle.qc_ops.specs.inner.Beside.{rows_beside}
+use Rattle.qc_ops.specs.inner.Beside.{rows_beside, Gathers}
 use Rattle.qc_ops.specs.Operands.{as_rec, bag, only_if}
 use Rattle.qc_ops.specs.Records.{is_among, has_names, fields_at, projection}
 use Rattle.qc_ops.specs.Sameness.{same}
 use Rattle.qc_ops.specs.declared.copies.Keep.TheVariants.{First}
-use Rattle.qc_ops.proofs.Keeping.{kept_next, tested}
+use Rattle.qc_ops.proofs.Keeping.{chosen, kept_next, tallied_more, told}
 use Rattle.qc_ops.proofs.Means.{length-each}
+use Rattle.qc_ops.proofs.Overlays.{from_place, past}
 
 abbrev Pairs : Type 0
 Pairs = List (List ℕ × Datum)
@@ -43,16 +47,46 @@ rows_of-canons key (k ∷ ks) (row ∷ rows) =
     row_first (same key k) (k, row) (filter (λ pair. same key pair.0) (zip ks rows))
     ∙ ap (λ l. cond (same key k) (row ∷ l) l) (rows_of-canons key ks rows)
 
--- the rows beside the canon of a key
-members_are : (keys rows canons : List Datum) (i : ℕ) (key own : Datum) (members : List Datum) → canons ≡ map canon keys
-    → i < length keys → key ≡ get_or keys i key → own ≡ get_or canons i own → members ≡ rows_beside own canons rows
-    → members ≡ rows_of key (zip keys rows)
-members_are keys rows canons i key own members mine lt at is made =
-    let sought : own ≡ canon key =
-    is ∙ ap (λ l. get_or l i own) mine ∙ get_or-map canon keys i key own lt ∙ ap canon (sym at) in
-    made ∙ rw (sought, mine) (sym (rows_of-canons key keys rows))
+-- the canon of a key
+canon_at : (keys canons : List Datum) (i : ℕ) (key own : Datum) → canons ≡ map canon keys → i < length keys
+    → key ≡ get_or keys i key → own ≡ get_or canons i own → own ≡ canon key
+canon_at keys canons i key own mine lt at is =
+    is ∙ ap (λ l. get_or l i own) mine ∙ get_or-map canon keys i key own lt ∙ ap canon (sym at)
+
+-- ---- rows gathered
+
+-- one row more
+pub beside_more : (canons rows : List Datum) (old new : List (Datum × List Datum)) (i : ℕ) (k row copied : Datum)
+    → i < length rows → length canons ≡ length rows → k ≡ get_or canons i k → row ≡ get_or rows i row → copied ≡ row
+    → ((c : Datum) → rows_beside c canons rows ≡ gathered c old ++ rows_beside c (drop i canons) (drop i rows))
+    → ((c : Datum) → gathered c new ≡ gathered c old ++ cond (equal c k) (copied ∷ []) [])
+    → (c : Datum)
+    → rows_beside c canons rows ≡ gathered c new ++ rows_beside c (drop (i + 1) canons) (drop (i + 1) rows)
+beside_more canons rows old new i k row copied lt long at at' is so_far more c =
+    let rest = rows_beside c (drop (i + 1) canons) (drop (i + 1) rows) in
+    let mine : drop i canons ≡ k ∷ drop (i + 1) canons = from_place canons i k (omega (arith, lt, long)) at in
+    let theirs : drop i rows ≡ row ∷ drop (i + 1) rows = from_place rows i row lt at' in
+    so_far c ∙ ap (λ l. gathered c old ++ l)
+    ((λ j. rows_beside c (mine j) (theirs j)) ∙ chosen (equal c k) row rest)
+    ∙ sym (append_assoc (gathered c old) (cond (equal c k) (row ∷ []) []) rest)
+    ∙ ap (λ x. (gathered c old ++ cond (equal c k) (x ∷ []) []) ++ rest) (sym is) ∙ ap (λ l. l ++ rest) (sym (more c))
+
+-- and all rows
+pub beside_all : (canons rows : List Datum) (made : List (Datum × List Datum)) (i : ℕ) → length rows ≤ i
+    → length canons ≡ length rows
+    → ((c : Datum) → rows_beside c canons rows ≡ gathered c made ++ rows_beside c (drop i canons) (drop i rows))
+    → Gathers made canons rows
+beside_all canons rows made i end long so_far c =
+    let none : drop i canons ≡ [] = past canons i (omega (arith, end, long)) in
+    sym (so_far c ∙ ap (λ l. gathered c made ++ rows_beside c l (drop i rows)) none ∙ append-nil (gathered c made))
 
 -- ---- one group more
+
+pub is_one : (n : ℕ) → n ≡ 1 → (n == 1) ≡ true
+is_one n e = rw e refl
+
+pub not_one : (n : ℕ) → n ≢ 1 → (n == 1) ≡ false
+not_one n e = grind (arith, nat_tests)
 
 module _ (g : List ℕ) (keys rows canons : List Datum) (i : ℕ) (key own : Datum) (mine : canons ≡ map canon keys)
     (lt : i < length keys) (at : key ≡ get_or keys i key) (is : own ≡ get_or canons i own) (all : List Datum) where
@@ -62,38 +96,54 @@ module _ (g : List ℕ) (keys rows canons : List Datum) (i : ℕ) (key own : Dat
   abbrev Left : ℕ → List Datum
   Left n = kept_by (λ k x. k == 1) (take n keys) (drop n keys)
 
-  module _ (b : Bool) (tested_as : b ≡ (suc (count_by (λ d. is_eq (cmp own d)) (take i canons)) == 1))
+  -- a key is counted, and is the first where there is one of it
+  module _ (seen : List (Datum × ℕ)) (copied : Datum) (n : ℕ) (copied_is : copied ≡ own)
+      (counted : n ≡ suc (count copied seen)) (tallied : Tallies seen (map canon (take i keys)))
       (so_far : each (group_of g (zip keys rows)) (firsts keys) ≡ gather_from F all (Left i)) where
-    left_is : Left i ≡ cond b (key ∷ Left (i + 1)) (Left (i + 1))
-    left_is =
-        kept_next (λ k x. k == 1) keys i key b lt at
-        (tested_as ∙ tested First keys [] canons [] i key own mine refl lt at is)
+    sought : copied ≡ canon key
+    sought = copied_is ∙ canon_at keys canons i key own mine lt at is
 
-    pub no_group : b ≡ false → (next : List Datum) → next ≡ all
+    left_is : Left i ≡ cond (n == 1) (key ∷ Left (i + 1)) (Left (i + 1))
+    left_is =
+        kept_next (λ k x. k == 1) keys i key (n == 1) lt at
+        (told First (take i keys) [] seen [] key copied n 0 tallied Tallies-none sought counted refl)
+
+    pub key_counted : (next : List (Datum × ℕ))
+        → ((d : Datum) → count d next ≡ count d seen + cond (equal d copied) 1 0)
+        → Tallies next (map canon (take (i + 1) keys))
+    key_counted next more = tallied_more keys i key copied seen next lt at sought tallied more
+
+    pub no_group : (n == 1) ≡ false → (next : List Datum) → next ≡ all
         → each (group_of g (zip keys rows)) (firsts keys) ≡ gather_from F next (Left (i + 1))
     no_group e next is_next =
         so_far ∙ ap (gather_from F all) (left_is ∙ ap (λ t. cond t (key ∷ Left (i + 1)) (Left (i + 1))) e)
         ∙ ap (λ l. gather_from F l (Left (i + 1))) (sym is_next)
 
-    pub next_group : b ≡ true → (members : List Datum) → members ≡ rows_beside own canons rows
-        → each (group_of g (zip keys rows)) (firsts keys)
-        ≡ and_then (and_then (as_rec key) (λ fields. Value (Rec (put g (Coll members) fields))))
-        (λ group. gather_from F (all ++ group ∷ []) (Left (i + 1)))
-    next_group e members made =
-        so_far ∙ ap (gather_from F all) (left_is ∙ ap (λ t. cond t (key ∷ Left (i + 1)) (Left (i + 1))) e)
-        ∙ bind_assoc (group_of g (zip keys rows) key) (λ group. Value (group ∷ []))
-        (λ ys. gather_from F (all ++ ys) (Left (i + 1)))
-        ∙ ap (λ l. and_then (and_then (as_rec key) (λ fields. Value (Rec (put g (Coll l) fields))))
-        (λ group. gather_from F (all ++ group ∷ []) (Left (i + 1))))
-        (sym (members_are keys rows canons i key own members mine lt at is made))
+    module _ (first : (n == 1) ≡ true) (made : List (Datum × List Datum)) (gathers : Gathers made canons rows)
+        (members : List Datum) (members_is : members ≡ gathered own made) where
+      members_are : members ≡ rows_of key (zip keys rows)
+      members_are =
+          members_is ∙ gathers own
+          ∙ rw (canon_at keys canons i key own mine lt at is, mine) (sym (rows_of-canons key keys rows))
 
-    pub goes_on : b ≡ true → (members : List Datum) → members ≡ rows_beside own canons rows → (group : Datum)
-        → and_then (as_rec key) (λ fields. Value (Rec (put g (Coll members) fields))) ≡ Value group
-        → (next : List Datum) → next ≡ all ++ group ∷ []
-        → each (group_of g (zip keys rows)) (firsts keys) ≡ gather_from F next (Left (i + 1))
-    goes_on e members made group is_group next is_next =
-        next_group e members made ∙ ap (λ o. and_then o (λ group. gather_from F (all ++ group ∷ []) (Left (i + 1))))
-        is_group ∙ ap (λ l. gather_from F l (Left (i + 1))) (sym is_next)
+      pub next_group : each (group_of g (zip keys rows)) (firsts keys)
+          ≡ and_then (and_then (as_rec key) (λ fields. Value (Rec (put g (Coll members) fields))))
+          (λ group. gather_from F (all ++ group ∷ []) (Left (i + 1)))
+      next_group =
+          so_far ∙ ap (gather_from F all) (left_is ∙ ap (λ t. cond t (key ∷ Left (i + 1)) (Left (i + 1))) first)
+          ∙ bind_assoc (group_of g (zip keys rows) key) (λ group. Value (group ∷ []))
+          (λ ys. gather_from F (all ++ ys) (Left (i + 1)))
+          ∙ ap (λ l. and_then (and_then (as_rec key) (λ fields. Value (Rec (put g (Coll l) fields))))
+          (λ group. gather_from F (all ++ group ∷ []) (Left (i + 1))))
+          (sym members_are)
+
+      pub goes_on : (group : Datum)
+          → and_then (as_rec key) (λ fields. Value (Rec (put g (Coll members) fields))) ≡ Value group
+          → (next : List Datum) → next ≡ all ++ group ∷ []
+          → each (group_of g (zip keys rows)) (firsts keys) ≡ gather_from F next (Left (i + 1))
+      goes_on group is_group next is_next =
+          next_group ∙ ap (λ o. and_then o (λ group. gather_from F (all ++ group ∷ []) (Left (i + 1)))) is_group
+          ∙ ap (λ l. gather_from F l (Left (i + 1))) (sym is_next)
 
 -- ---- keys and rows side by side
 

@@ -5,7 +5,7 @@ use Rattle.std.specs.Prelude.{count_by}
 use Rattle.std.specs.List.{fold}
 use Rattle.std.specs.Ordering.{is_eq}
 use Rattle.std.proofs.Math.Seq.{take-suc}
-use Rattle.std.proofs.lemmas.List.{take-map, get_or-map, map-append}
+use Rattle.std.proofs.lemmas.List.{map-append}
 use Rattle.qc_data.specs.Order.{cmp, canon}
 use Rattle.qc_data.specs.declared.data.Datum.{Datum}
 use Rattle.qc_keys.specs.Counts.{count, equal, Tallies}
@@ -23,16 +23,6 @@ fold-map g h b (x ∷ xs) = fold-map g h (g b (h x)) xs
 -- copies are counted among canons
 copies-canons : (d : Datum) (xs : List Datum) → count_by (λ c. is_eq (cmp (canon d) c)) (map canon xs) ≡ copies d xs
 copies-canons d xs = fold-map (λ (n : ℕ) c. n + cond (is_eq (cmp (canon d) c)) 1 0) canon 0 xs
-
--- what the code tests of canons is what the rule says of members
-pub tested : (rule : Keep) (xs ys own others : List Datum) (i : ℕ) (x c : Datum) → own ≡ map canon xs
-    → others ≡ map canon ys → i < length xs → x ≡ get_or xs i x → c ≡ get_or own i c
-    → keeps rule (suc (count_by (λ d. is_eq (cmp c d)) (take i own))) (count_by (λ d. is_eq (cmp c d)) others)
-    ≡ keeps rule (suc (copies x (take i xs))) (copies x ys)
-tested rule xs ys own others i x c mine theirs lt at is =
-    let sought : c ≡ canon x = is ∙ ap (λ l. get_or l i c) mine ∙ get_or-map canon xs i x c lt ∙ ap canon (sym at) in
-    let before : take i own ≡ map canon (take i xs) = ap (take i) mine ∙ take-map canon i xs in
-    rw (sought, before, theirs, copies-canons x (take i xs), copies-canons x ys) refl
 
 -- what the code tests by tallies is what the rule says of members
 pub told : (rule : Keep) (before ys : List Datum) (seen others : List (Datum × ℕ)) (x c : Datum) (n k : ℕ)
@@ -54,7 +44,8 @@ tallied_more xs i x c old new lt at is so_far more =
     ∙ ap (map canon) (sym ahead) ∙ (λ k. map canon (take (sym (add-one i) k) xs)) in
     subst (λ l. Tallies new l) all (Tallies-more old new (map canon (take i xs)) c so_far more)
 
-chosen : (b : Bool) (x : Datum) (zs : List Datum) → cond b (x ∷ zs) zs ≡ cond b (x ∷ []) [] ++ zs
+-- what is put in front is put before the rest
+pub chosen : (b : Bool) (x : Datum) (zs : List Datum) → cond b (x ∷ zs) zs ≡ cond b (x ∷ []) [] ++ zs
 chosen true x zs = refl
 chosen false x zs = refl
 

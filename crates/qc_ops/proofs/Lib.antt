@@ -1,3 +1,4 @@
+pub mod Agreements
 pub mod ColumnLaws
 pub mod Folds
 pub mod Groups

@@ -36,13 +36,13 @@ Rising-with_next xs ys p r = Rising-before (xs ++ p ∷ []) ys (subst Rising (sy
 
 -- ---- a field put among those that rise
 
-after_less : (m n : List ℕ) → text_cmp m n ≡ Less → text_cmp n m ≡ Greater
+pub after_less : (m n : List ℕ) → text_cmp m n ≡ Less → text_cmp n m ≡ Greater
 after_less m n e = nat_list_cmp_total.antisymm n m ∙ ap ordering_reverse e
 
-unlike : (m n : List ℕ) (o : Ordering) → text_cmp m n ≡ o → bytes_eq m n ≡ is_eq o
+pub unlike : (m n : List ℕ) (o : Ordering) → text_cmp m n ≡ o → bytes_eq m n ≡ is_eq o
 unlike m n o e = sym (is_eq-slice_cmp m n) ∙ ap is_eq e
 
-lookup-above : (n : List ℕ) (ps : Pairs) → Above n ps → lookup n ps ≡ None
+pub lookup-above : (n : List ℕ) (ps : Pairs) → Above n ps → lookup n ps ≡ None
 lookup-above n [] a = refl
 lookup-above n (p ∷ ps) a = rw (unlike p.0 n Greater (after_less n p.0 a.0)) (lookup-above n ps a.1)
 
@@ -81,7 +81,7 @@ Rising-put_new n v ps (Some w) e r = rw e r
 
 -- ---- one record over another
 
-Above-trans : (m n : List ℕ) (ps : Pairs) → text_cmp m n ≡ Less → Above n ps → Above m ps
+pub Above-trans : (m n : List ℕ) (ps : Pairs) → text_cmp m n ≡ Less → Above n ps → Above m ps
 Above-trans m n [] e a = tt
 Above-trans m n (p ∷ ps) e a = (nat_list_cmp_total.trans m n p.0 e a.0, Above-trans m n ps e a.1)
 
@@ -134,12 +134,12 @@ Above-drop n zero ps a = a
 Above-drop n (suc i) [] a = tt
 Above-drop n (suc i) (p ∷ ps) a = Above-drop n i ps a.1
 
-Rising-drop : (i : ℕ) (ps : Pairs) → Rising ps → Rising (drop i ps)
+pub Rising-drop : (i : ℕ) (ps : Pairs) → Rising ps → Rising (drop i ps)
 Rising-drop zero ps r = r
 Rising-drop (suc i) [] r = tt
 Rising-drop (suc i) (p ∷ ps) r = Rising-drop i ps r.1
 
-from_place : (ps : Pairs) (i : ℕ) (p : List ℕ × Datum) → i < length ps → p ≡ get_or ps i p
+pub from_place : {X : Type 0} (ps : List X) (i : ℕ) (p : X) → i < length ps → p ≡ get_or ps i p
     → drop i ps ≡ p ∷ drop (i + 1) ps
 from_place ps i p lt at = drop-cons ps i p lt ∙ (λ k. sym at k ∷ drop (sym (add-one i) k) ps)
 
@@ -179,7 +179,7 @@ gone_last whole all rest left next p e is made =
     e ∙ ap (λ l. all ++ l) is ∙ sym (append_assoc all (p ∷ []) rest) ∙ ap (λ l. l ++ rest) (sym made)
 
 -- where one record has ended the other follows
-past : (ps : Pairs) (i : ℕ) → length ps ≤ i → drop i ps ≡ []
+pub past : {X : Type 0} (ps : List X) (i : ℕ) → length ps ≤ i → drop i ps ≡ []
 past [] zero h = refl
 past [] (suc i) h = refl
 past (p ∷ ps) zero h = absurd (omega arith)

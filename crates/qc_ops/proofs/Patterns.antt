@@ -1,6 +1,6 @@
 -- A pattern met by going over its characters up to the next `%`, and what a `%` before it changes.
 use Rattle.std.proofs.Common.{◌≡◌, ◌⊎◌, inl, inr, ℕ, Bool, true, false, cond, List, [], ◌∷◌, refl, ap, subst, ◌∙◌}
-use Rattle.std.proofs.Common.{arith}
+use Rattle.std.proofs.Common.{arith, length}
 use Rattle.std.specs.Prelude.{◌==◌, ◌||◌, ◌&&◌, chars}
 use Rattle.std.specs.Cmp.{both_ways}
 use Rattle.std.proofs.lemmas.Str.{chars-nil}
@@ -137,6 +137,21 @@ meets-run true ps cs p t e =
     (λ h. let w = somewhere (matches ps) cs h in drift ps cs w.0 p t w.1.0 e w.1.1)
     (λ h. here (matches ps) cs (told_as ps cs (Run p t) e ∙ h))
 meets-run false ps cs p t e = told_as ps cs (Run p t) e
+
+pub nothing : (xs : List ℕ) → length xs ≡ 0 → xs ≡ []
+nothing [] e = refl
+nothing (x ∷ xs) e = absurd (omega (arith, e))
+
+any_tail : (cs : List ℕ) → some_tail (matches []) cs ≡ true
+any_tail [] = refl
+any_tail (c ∷ cs) = any_tail cs
+
+-- a last `%` is for any text
+pub meets-end : (b : Bool) (ps cs rest t : List ℕ) → passed ps cs ≡ Run (chars rest) t → rest ≡ []
+    → meets b ps cs ≡ true
+meets-end b ps cs rest t e none =
+    let over : chars rest ≡ [] = ap chars none ∙ chars-nil in
+    meets-run b ps cs (chars rest) t e ∙ rw over (any_tail t)
 
 pub meets-unlike : (ps cs : List ℕ) → passed ps cs ≡ Unlike → meets false ps cs ≡ false
 meets-unlike ps cs e = told_as ps cs Unlike e

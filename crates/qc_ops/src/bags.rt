@@ -5,10 +5,11 @@ ghost use Rattle.qc_data.specs.Outcome.{gather, Gives};
 ghost use Rattle.qc_ops.specs.Bags.{bag_of, distinct, except, flattened, intersection, membership, only_member, union};
 ghost use Rattle.qc_ops.specs.Sameness.{equality};
 
-use crate::copies::{Keep, has_same, is_same, kept};
+use crate::copies::{Keep, kept};
 use crate::operands::{items_of, optional};
 use qc_containers::Memory;
 use qc_data::{Datum, Halt, Items, copy};
+use qc_keys::{has_same, is_same};
 use std::alloc::Global;
 
 pub(crate) fn equality(alloc: Global, a: &Datum, b: &Datum) -> Result<Datum, Halt>

@@ -1,14 +1,11 @@
-// Members of lists by sameness, which is equality of canons.
-ghost use Rattle.std.specs.Prelude.{◌≡◌, [], count_by, map, suc, IfOk};
-ghost use Rattle.std.specs.List.{list_any};
-ghost use Rattle.std.specs.Ordering.{is_eq};
-ghost use Rattle.qc_data.specs.Order.{canon, cmp};
+// Members of lists by how many copies of them there are.
+ghost use Rattle.std.specs.Prelude.{◌≡◌, [], IfOk};
 ghost use Rattle.qc_ops.specs.Bags.{kept_by};
-ghost use Rattle.qc_ops.specs.Sameness.{copies, same};
+ghost use Rattle.qc_ops.specs.Sameness.{copies};
 ghost use Rattle.qc_ops.specs.inner.Keeping.{keeps};
 
 use qc_containers::Memory;
-use qc_data::{Datum, Items, canon, cmp, copy};
+use qc_data::{Datum, Items, copy};
 use qc_keys::{Key, Tally};
 use std::alloc::Global;
 
@@ -46,15 +43,6 @@ pub(crate) fn kept(
     Ok(all)
 }
 
-// Whether the rule keeps a member of the canon, given those of the members before it and those elsewhere.
-pub(crate) fn is_kept(rule: Keep, own: &Datum, before: &[Datum], elsewhere: &[Datum]) -> bool
-    ensures { result
-        ≡ keeps rule (suc (count_by (λ c. is_eq (cmp own.now c)) before.now))
-        (count_by (λ c. is_eq (cmp own.now c)) elsewhere.now) }
-{
-    keeps(rule, equals(before, own) + 1, equals(elsewhere, own))
-}
-
 // Whether the rule keeps a member of so many copies up to and with it, and so many elsewhere.
 fn keeps(rule: Keep, copies: usize, elsewhere: usize) -> bool
     ensures { result ≡ keeps rule copies elsewhere }
@@ -64,58 +52,4 @@ fn keeps(rule: Keep, copies: usize, elsewhere: usize) -> bool
         Keep::Beyond => elsewhere < copies,
         Keep::Within => copies <= elsewhere,
     }
-}
-
-// The canons of the members.
-pub(crate) fn canons(alloc: Global, items: &[Datum]) -> Result<Vec<Datum>, Memory>
-    ensures { IfOk result (λ made. made.items ≡ map canon items.now) }
-{
-    let mut all = Vec::new(alloc);
-    for item in items {
-        all.push(canon(alloc, item)?)?;
-    }
-    Ok(all)
-}
-
-// How many of the canons are the one sought.
-fn equals(canons: &[Datum], sought: &Datum) -> usize
-    ensures { result ≡ count_by (λ c. is_eq (cmp sought.now c)) canons.now }
-{
-    canons.iter().filter(|c| cmp(sought, c).is_eq()).count()
-}
-
-// Whether some member is the same as the datum.
-pub(crate) fn has_same(alloc: Global, d: &Datum, items: &[Datum]) -> Result<bool, Memory>
-    ensures { IfOk result (λ answer. answer ≡ list_any (same d.now) items.now) }
-{
-    let sought = canon(alloc, d)?;
-    has_canon(alloc, &sought, items)
-}
-
-// Whether the canon of some member is the one sought.
-fn has_canon(alloc: Global, sought: &Datum, items: &[Datum]) -> Result<bool, Memory>
-    ensures { IfOk result (λ answer. answer ≡ list_any (λ item. is_eq (cmp sought.now (canon item))) items.now) }
-{
-    for item in items {
-        if is_canon(alloc, sought, item)? {
-            return Ok(true);
-        }
-    }
-    Ok(false)
-}
-
-// Whether the canon of the datum is the one sought.
-fn is_canon(alloc: Global, sought: &Datum, d: &Datum) -> Result<bool, Memory>
-    ensures { IfOk result (λ answer. answer ≡ is_eq (cmp sought.now (canon d.now))) }
-{
-    let other = canon(alloc, d)?;
-    Ok(cmp(sought, &other).is_eq())
-}
-
-// Whether the two are the same.
-pub(crate) fn is_same(alloc: Global, a: &Datum, b: &Datum) -> Result<bool, Memory>
-    ensures { IfOk result (λ answer. answer ≡ same a.now b.now) }
-{
-    let sought = canon(alloc, a)?;
-    is_canon(alloc, &sought, b)
 }

@@ -1,22 +1,23 @@
 // Rows by their values at names.
-ghost use Rattle.std.specs.Prelude.{◌≡◌, length, zip, IfOk};
+ghost use Rattle.std.specs.Prelude.{◌≡◌, length, map, zip, IfOk};
 ghost use Rattle.std.specs.List.{AllByRecursion};
+ghost use Rattle.qc_data.specs.Order.{canon};
 ghost use Rattle.qc_data.specs.Outcome.{and_then, each, Gives, Value};
 ghost use Rattle.qc_containers.specs.Pairs.{put};
 ghost use Rattle.qc_data.specs.declared.data.Datum.TheVariants.{Coll, Rec};
 ghost use Rattle.qc_ops.specs.Bags.{firsts};
 ghost use Rattle.qc_ops.specs.Grouping.{group_of, grouped, Lacks};
-ghost use Rattle.qc_ops.specs.inner.Beside.{rows_beside};
+ghost use Rattle.qc_ops.specs.inner.Beside.{Gathers};
 ghost use Rattle.qc_ops.specs.Operands.{as_rec};
 ghost use Rattle.qc_ops.specs.Records.{projection};
 
-use crate::copies::{Keep, canons, is_kept};
 use crate::joining::copy_fields;
 use crate::op::Names;
 use crate::operands::{fields_of, items_of};
 use crate::records::{is_among, projection};
 use qc_containers::{Memory, Name};
-use qc_data::{Datum, Halt, Items, cmp, copy};
+use qc_data::{Datum, Halt, Items, copy};
+use qc_keys::{Gathering, Key, Tally};
 use std::alloc::Global;
 
 pub(crate) fn grouped(alloc: Global, g: &Name, names: &Names, a: &Datum) -> Result<Datum, Halt>
@@ -52,13 +53,16 @@ fn groups(alloc: Global, g: &Name, keys: &[Datum], rows: &[Datum]) -> Result<Ite
     requires beside { length keys.now ≡ length rows.now }
     ensures { Gives (each (group_of g.now (zip keys.now rows.now)) (firsts keys.now)) result }
 {
-    let key_canons = canons(alloc, keys)?;
-    let canons = key_canons.as_slice();
+    let canons = canons(alloc, keys)?;
+    let canons = canons.as_slice();
+    let gathering = gathered(alloc, canons, rows)?;
+    let mut seen = Tally::new(alloc);
     let mut all = Items::new(alloc);
     for (at, key) in keys.iter().enumerate() {
         let canon = &canons[at];
-        if is_kept(Keep::First, canon, &canons[..at], &[]) {
-            let members = rows_beside(alloc, canon, canons, rows)?;
+        let is_first = seen.add(canon.copy(alloc)?)? == 1;
+        if is_first {
+            let members = gathering.at(alloc, canon)?;
             let group = group_of(alloc, g, key, members)?;
             all.add(group)?;
         }
@@ -80,21 +84,25 @@ fn group_of(alloc: Global, g: &Name, key: &Datum, members: Items) -> Result<Datu
     }
 }
 
-// Copies of the rows that stand beside the canon.
-fn rows_beside(
-    alloc: Global,
-    canon: &Datum,
-    canons: &[Datum],
-    rows: &[Datum],
-) -> Result<Items, Memory>
-    requires { length canons.now ≡ length rows.now }
-    ensures { IfOk result (λ made. made ≡ rows_beside canon.now canons.now rows.now) }
+// The canons of the data.
+fn canons(alloc: Global, items: &[Datum]) -> Result<Vec<Key>, Memory>
+    ensures { IfOk result (λ made. made.items ≡ map canon items.now) }
 {
-    let mut all = Items::new(alloc);
+    let mut all = Vec::new(alloc);
+    for item in items {
+        all.push(Key::of(alloc, item)?)?;
+    }
+    Ok(all)
+}
+
+// The rows by the canons beside them.
+fn gathered(alloc: Global, canons: &[Key], rows: &[Datum]) -> Result<Gathering, Memory>
+    requires { length canons.now ≡ length rows.now }
+    ensures { IfOk result (λ made. Gathers made canons.now rows.now) }
+{
+    let mut all = Gathering::new(alloc);
     for (at, row) in rows.iter().enumerate() {
-        if cmp(canon, &canons[at]).is_eq() {
-            all.add(copy(alloc, row)?)?;
-        }
+        all.add(alloc, &canons[at], copy(alloc, row)?)?;
     }
     Ok(all)
 }

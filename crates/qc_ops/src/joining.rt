@@ -1,10 +1,11 @@
-// Two records in one.
+// Two records walked together.
 ghost use Rattle.std.specs.Prelude.{◌≡◌, [], ◌∷◌, ◌++◌, OnOk, IfOk};
 ghost use Rattle.qc_containers.specs.Rising.{Rising};
-ghost use Rattle.qc_ops.specs.Records.{over};
+ghost use Rattle.qc_ops.specs.Records.{compatible, over};
 
 use qc_containers::{Memory, Name};
 use qc_data::{Datum, Fields, copy};
+use qc_keys::is_same;
 use std::alloc::Global;
 use std::cmp::Ordering;
 
@@ -35,6 +36,31 @@ pub(crate) fn over(alloc: Global, first: &Fields, second: &Fields) -> Result<Fie
     put_all_last(alloc, &mut all, &left[at..])?;
     put_all_last(alloc, &mut all, &right[to..])?;
     Ok(all)
+}
+
+// Whether the values at shared names are the same, in one pass over both.
+pub(crate) fn compatible(alloc: Global, first: &Fields, second: &Fields) -> Result<bool, Memory>
+    ensures { IfOk result (λ answer. answer ≡ compatible first.now second.now) }
+{
+    let left = first.as_slice();
+    let right = second.as_slice();
+    let mut at = 0;
+    let mut to = 0;
+    while at < left.len() && to < right.len() {
+        let mine = &left[at];
+        let theirs = &right[to];
+        match mine.0.as_str().cmp(theirs.0.as_str()) {
+            Ordering::Less => at += 1,
+            Ordering::Equal => {
+                if !is_same(alloc, &mine.1, &theirs.1)? {
+                    return Ok(false);
+                }
+                at += 1;
+            }
+            Ordering::Greater => to += 1,
+        }
+    }
+    Ok(true)
 }
 
 // Puts a copy of the field last.

@@ -15,7 +15,7 @@ enum Walk<'a> {
 
 /// Whether the whole text is like the pattern: in it `%` is any run of characters, `_` any one character, and every
 /// other character itself. It takes no memory, and looks at most once at each character of the text for each of the
-/// pattern.
+/// pattern, and at none that a last `%` is for.
 pub fn like(pattern: &str, text: &str) -> bool
     ensures { result ≡ is_like pattern.now text.now }
 {
@@ -26,6 +26,9 @@ pub fn like(pattern: &str, text: &str) -> bool
         match pass(pattern, text) {
             Walk::Over => return true,
             Walk::Run(rest, left) => {
+                if rest.is_empty() {
+                    return true;
+                }
                 pattern = rest;
                 text = left;
                 behind_run = true;

@@ -1,13 +1,11 @@
 // Records.
 ghost use Rattle.std.specs.Prelude.{◌≡◌, IfOk};
-ghost use Rattle.std.specs.Option.{option_copied};
 ghost use Rattle.qc_data.specs.Outcome.{Gives};
 ghost use Rattle.qc_containers.specs.Rising.{Rising};
-ghost use Rattle.qc_ops.specs.Records.{compatible, concatenation, field, fields_at, has_names, is_among, merger};
-ghost use Rattle.qc_ops.specs.Records.{part_of, projection, record_of, same_at};
+ghost use Rattle.qc_ops.specs.Records.{concatenation, field, fields_at, has_names, is_among, merger};
+ghost use Rattle.qc_ops.specs.Records.{part_of, projection, record_of};
 
-use crate::copies::is_same;
-use crate::joining::{over, put_last};
+use crate::joining::{compatible, over, put_last};
 use crate::op::Names;
 use crate::operands::fields_of;
 use qc_containers::{Memory, Name};
@@ -109,26 +107,4 @@ pub(crate) fn merger(alloc: Global, a: &Datum, b: &Datum) -> Result<Datum, Halt>
         merged.add(Datum::Rec(over(alloc, first, second)?))?;
     }
     Ok(Datum::Coll(merged))
-}
-
-// Whether the values at shared names are the same.
-fn compatible(alloc: Global, first: &Fields, second: &Fields) -> Result<bool, Memory>
-    ensures { IfOk result (λ answer. answer ≡ compatible first.now second.now) }
-{
-    for pair in first.as_slice() {
-        if !is_same_at(alloc, &pair.1, second.get(pair.0.as_str()))? {
-            return Ok(false);
-        }
-    }
-    Ok(true)
-}
-
-// Whether the value is the same as the other, if there is one.
-fn is_same_at(alloc: Global, value: &Datum, other: Option<&Datum>) -> Result<bool, Memory>
-    ensures { IfOk result (λ answer. answer ≡ same_at value.now (option_copied other.entry)) }
-{
-    match other {
-        Some(other) => is_same(alloc, value, other),
-        None => Ok(true),
-    }
 }

@@ -17,7 +17,7 @@ pub fn read_json(alloc: Global, bytes: &[u8]) -> Result<Tree, InputFault>
     ensures bad { result ≡ Err InputFault.BadInput → (j : Json) → ¬ Means bytes.now j }
 {
     match Value::from_slice(alloc, bytes) {
-        Ok(value) => match convert(alloc, &value)? {
+        Ok(value) => match convert(alloc, value)? {
             Some(tree) => Ok(tree),
             None => Err(InputFault::BadInput),
         },
@@ -31,14 +31,14 @@ pub fn read_json(alloc: Global, bytes: &[u8]) -> Result<Tree, InputFault>
     }
 }
 
-// The value as a tree, where every number is an integer.
+// The value as a tree, where every number is an integer. Each part is freed as soon as its tree is made.
 #[cycle(convert)]
-fn convert(alloc: Global, value: &Value) -> Result<Option<Tree>, Memory>
-    ensures { IfOk result (λ o. o ≡ of_data (view value.now)) }
+fn convert(alloc: Global, value: Value) -> Result<Option<Tree>, Memory>
+    ensures { IfOk result (λ o. o ≡ of_data (view value)) }
 {
     match value {
         Value::Null => Ok(Some(Tree::Null)),
-        Value::Bool(b) => Ok(Some(Tree::Bool(*b))),
+        Value::Bool(b) => Ok(Some(Tree::Bool(b))),
         Value::Number(n) => match n.as_i64() {
             Some(n) => Ok(Some(Tree::Int(n))),
             None => Ok(None),
@@ -57,8 +57,8 @@ fn convert(alloc: Global, value: &Value) -> Result<Option<Tree>, Memory>
 
 // The same of each item.
 #[cycle(convert)]
-fn convert_items(alloc: Global, items: &Vec<Value>) -> Result<Option<Jsons>, Memory>
-    ensures { IfOk result (λ o. o ≡ of_items (items_view items.now.items)) }
+fn convert_items(alloc: Global, items: Vec<Value>) -> Result<Option<Jsons>, Memory>
+    ensures { IfOk result (λ o. o ≡ of_items (items_view items.items)) }
 {
     let mut all = Jsons::new(alloc);
     for item in items {
@@ -72,11 +72,11 @@ fn convert_items(alloc: Global, items: &Vec<Value>) -> Result<Option<Jsons>, Mem
 
 // The same of each member.
 #[cycle(convert)]
-fn convert_members(alloc: Global, members: &Map<String, Value>) -> Result<Option<Members>, Memory>
-    ensures { IfOk result (λ o. o ≡ of_members (members_view members.now.entries)) }
+fn convert_members(alloc: Global, members: Map<String, Value>) -> Result<Option<Members>, Memory>
+    ensures { IfOk result (λ o. o ≡ of_members (members_view members.entries)) }
 {
     let mut all = Members::new(alloc);
-    for (key, member) in members.iter() {
+    for (key, member) in members {
         let name = Chars::of(alloc, key.as_str())?;
         match convert(alloc, member)? {
             Some(tree) => all.add(name, tree)?,

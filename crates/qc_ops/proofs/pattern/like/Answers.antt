@@ -1,12 +1,20 @@
-use Rattle.std.proofs.Common.{◌∙◌, sym, ap, rules}
+use Rattle.std.proofs.Common.{◌∙◌, sym, ap, rules, arith}
 use Rattle.std.specs.Prelude.{chars}
-use Rattle.qc_ops.proofs.Patterns.{meets, meets-over, meets-run, meets-unlike, meets-none, meets-later}
+use Rattle.std.proofs.lemmas.Bool.Decides.{nat_tests}
+use Rattle.qc_ops.proofs.Patterns.{meets, meets-end, meets-over, meets-run, meets-unlike, meets-none, meets-later}
+use Rattle.qc_ops.proofs.Patterns.{nothing}
 use Rattle.qc_ops.proofs.pattern.like.Goals as goal
 
 pub returns-in-Over : goal.returns-in-Over
 returns-in-Over c =
     sym (c.loop-rest.invariant.same ∙ meets-over c.loop-rest.behind_run (chars c.loop-rest.pattern.now)
     (chars c.loop-rest.text.now) (sym c.in-Over.ensures.value))
+
+pub returns-then-is_empty : goal.returns-then-is_empty
+returns-then-is_empty c =
+    sym (c.loop-rest.invariant.same ∙ meets-end c.loop-rest.behind_run (chars c.loop-rest.pattern.now)
+    (chars c.loop-rest.text.now) c.in-Run.rest.now (chars c.in-Run.left.now) (sym c.in-Run.ensures.value)
+    (nothing c.in-Run.rest.now (grind (arith, nat_tests))))
 
 pub loop-rest-preserved-in-Run : goal.loop-rest-preserved-in-Run
 loop-rest-preserved-in-Run c = record {
