@@ -16,23 +16,24 @@ use Rattle.qc_source.specs.declared.fault.QueryFault.{QueryFault}
 use Rattle.qc_source.specs.declared.fault.QueryFault.TheVariants as fault
 use Rattle.qc_source.specs.Queries.{IsTokens, IsScanFault}
 use Rattle.qc_source.proofs.ScanLaws.{one_list, no_scan_fault, one_scan_fault}
-use Rattle.qcert.specs.declared.refusal.File.TheVariants as file
-use Rattle.qcert.specs.declared.refusal.Refusal.{Refusal}
-use Rattle.qcert.specs.declared.refusal.Refusal.TheVariants.{Memory}
-use Rattle.qcert.specs.declared.sources.Checked.{Checked}
-use Rattle.qcert.specs.declared.sources.Query.{Query}
-use Rattle.qcert.specs.declared.sources.Query.TheVariants as query
-use Rattle.qcert.specs.declared.sources.Source.{Source}
-use Rattle.qcert.specs.declared.sources.Source.TheVariants as source
-use Rattle.qcert.specs.Causes.{of_query}
+use Rattle.qc_work.specs.declared.refusal.File.TheVariants as file
+use Rattle.qc_work.specs.declared.refusal.Refusal.{Refusal}
+use Rattle.qc_work.specs.declared.refusal.Refusal.TheVariants.{Memory}
+use Rattle.qc_work.specs.declared.sources.Checked.{Checked}
+use Rattle.qc_work.specs.declared.sources.Query.{Query}
+use Rattle.qc_work.specs.declared.sources.Query.TheVariants as query
+use Rattle.qc_work.specs.declared.sources.Source.{Source}
+use Rattle.qc_work.specs.declared.sources.Source.TheVariants as source
+use Rattle.qc_work.specs.Causes.{of_query}
+use Rattle.qc_work.specs.Reading.{IsBadSchema, IsForFault, IsBadScan, IsBadQuery, IsInput, IsBadInput}
+use Rattle.qc_work.specs.Right.{world_in}
+use Rattle.qc_work.specs.Sources.{table_of, IsQuery, IsFault}
+use Rattle.qc_work.specs.Work as work
+use Rattle.qc_work.specs.Work.{Work, IsTextFor, Refuses, IsClear}
 use Rattle.qcert.specs.Jobs.{Subject, Job, Check, Compile, Run}
-use Rattle.qcert.specs.Reading.{IsBadSchema, schema_of, IsForFault, IsBadScan, tokens_in, IsBadQuery, query_in}
-use Rattle.qcert.specs.Reading.{checked_in, IsInput, IsBadInput, input_of, read, names_of, files_of, serve}
-use Rattle.qcert.specs.Right.{world_in}
-use Rattle.qcert.specs.Sources.{table_of, IsQuery, IsFault}
+use Rattle.qcert.specs.Reading.{schema_of, tokens_in, query_in, checked_in, input_of, read, names_of, files_of, act}
+use Rattle.qcert.specs.Reading.{serve}
 use Rattle.qcert.specs.Steps.{Names, firm, pure, then}
-use Rattle.qcert.specs.Work as work
-use Rattle.qcert.specs.Work.{Work, IsTextFor, Refuses, IsClear, act}
 use Rattle.qcert.proofs.StepLaws.{Lawful, Good, IsPartial, firm_lawful, firm_good, pure_good, read_good, then_good}
 use Rattle.qcert.proofs.StepLaws.{then_lawful, AsksFor, firm_asks, pure_asks, read_asks, then_asks, then_nothing}
 

@@ -1,10 +1,5 @@
-pub mod Bags
-pub mod Evaluated
 pub mod JobLaws
 pub mod Lines
-pub mod Lowered
 pub mod RanLemmas
-pub mod Refusing
-pub mod Right
 pub mod StageLemmas
 pub mod StepLaws

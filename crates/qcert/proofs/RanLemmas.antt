@@ -2,21 +2,22 @@
 use Rattle.std.proofs.Common.{◌≡◌, ◌⊎◌, inl, inr, sym, ◌∙◌, ap, subst, ℕ, List, [], Option, Some, None, Result, Ok, Err}
 use Rattle.std.proofs.lemmas.List.{append-nil}
 use Rattle.qc_io.specs.Device.{Texts}
-use Rattle.qcert.specs.declared.refusal.Refusal.{Refusal}
-use Rattle.qcert.specs.declared.refusal.Refusal.TheVariants.{Usage, ReadFault, TooLong, BadSchema, BadScan}
-use Rattle.qcert.specs.declared.refusal.Refusal.TheVariants.{TooManyTokens}
-use Rattle.qcert.specs.declared.refusal.Refusal.TheVariants.{BadSyntax, BadType, Unbuilt, BadInput, Range, WriteFault}
-use Rattle.qcert.specs.declared.refusal.Refusal.TheVariants.{Memory}
+use Rattle.qc_work.specs.declared.refusal.Refusal.{Refusal}
+use Rattle.qc_work.specs.declared.refusal.Refusal.TheVariants.{Usage, ReadFault, TooLong, BadSchema, BadScan}
+use Rattle.qc_work.specs.declared.refusal.Refusal.TheVariants.{TooManyTokens}
+use Rattle.qc_work.specs.declared.refusal.Refusal.TheVariants.{BadSyntax, BadType, Unbuilt, BadInput, Range, WriteFault}
+use Rattle.qc_work.specs.declared.refusal.Refusal.TheVariants.{Memory}
 use Rattle.std.specs.Io.KnownBytes.{append_known}
 use Rattle.std.specs.Prelude.{IsOk}
-use Rattle.qcert.specs.Delivery.{status_of, Put, OutputFailed, IsDelivered, IsRefusedFor}
+use Rattle.qc_work.specs.Refusals.{status_of}
+use Rattle.qc_work.specs.Work.{IsTextFor}
+use Rattle.qcert.specs.Delivery.{Put, OutputFailed, IsDelivered, IsRefusedFor}
 use Rattle.qcert.specs.Jobs.{Subject, Job, Compile, job_of}
 use Rattle.qcert.specs.Ran.{IsEnding, no_job, of_job, Ran, AskedFor, HasAskedFor, nothing, its_files}
 use Rattle.qcert.specs.Ran.{IsServed, IsCompiled, IsServable, IsDue}
 use Rattle.qcert.specs.Ran as ran
-use Rattle.qcert.specs.Reading.{read, files_of, serve}
+use Rattle.qcert.specs.Reading.{read, files_of, act, serve}
 use Rattle.qcert.specs.Steps.{Names, Visit, HasFailed, MayEnd, Ended}
-use Rattle.qcert.specs.Work.{IsTextFor, act}
 use Rattle.qcert.proofs.JobLaws.{reads_good, serve_lawful, serve_asks, clear_work}
 use Rattle.qcert.proofs.StepLaws.{IsFront, complete as completed, refused as refused_for}
 

@@ -4,13 +4,15 @@ use Rattle.std.proofs.Common.{Option, Some, None, Result, Ok, Err, MatchResult}
 use Rattle.std.specs.Result.{result_map_both}
 use Rattle.std.proofs.lemmas.List.{append_assoc, append-nil}
 use Rattle.qc_io.specs.Device.{Texts, Rose, HasAsked, and_then_asked}
-use Rattle.qcert.specs.declared.refusal.File.{File}
-use Rattle.qcert.specs.declared.refusal.Refusal.{Refusal}
-use Rattle.qcert.specs.declared.refusal.Refusal.TheVariants.{Memory}
-use Rattle.qcert.specs.inner.Promises.{Stage, Acts}
+use Rattle.qc_work.specs.declared.refusal.File.{File}
+use Rattle.qc_work.specs.declared.refusal.Refusal.{Refusal}
+use Rattle.qc_work.specs.declared.refusal.Refusal.TheVariants.{Memory}
+use Rattle.qc_work.specs.Promises.{Acts}
+use Rattle.qc_work.specs.Work.{Work, IsTextFor, Refuses, IsClear}
+use Rattle.qcert.specs.inner.Promises.{Stage}
 use Rattle.qcert.specs.Files.{fetch, read_as}
 use Rattle.qcert.specs.Steps.{Names, Step, Visit, MayEnd, firm, pure, then}
-use Rattle.qcert.specs.Work.{Work, IsTextFor, Refuses, IsClear, act}
+use Rattle.qcert.specs.Reading.{act}
 
 pub itself : (n : ℕ) → n ≤ n
 itself n = omega arith

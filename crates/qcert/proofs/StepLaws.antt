@@ -4,9 +4,9 @@ use Rattle.std.proofs.Common.{◌≡◌, ◌<◌, ◌≤◌, ◌⊎◌, inl, inr
 use Rattle.std.proofs.Common.{Option, Some, None, Result, Ok, Err, length, append_assoc, arith}
 use Rattle.std.proofs.lemmas.List.{append-nil}
 use Rattle.qc_io.specs.Device.{Texts}
-use Rattle.qcert.specs.declared.refusal.File.{File}
-use Rattle.qcert.specs.declared.refusal.Refusal.{Refusal}
-use Rattle.qcert.specs.declared.refusal.Refusal.TheVariants.{ReadFault, Memory}
+use Rattle.qc_work.specs.declared.refusal.File.{File}
+use Rattle.qc_work.specs.declared.refusal.Refusal.{Refusal}
+use Rattle.qc_work.specs.declared.refusal.Refusal.TheVariants.{ReadFault, Memory}
 use Rattle.qcert.specs.Files.{HasNoText, fetch, read_as, most_of}
 use Rattle.qcert.specs.Steps.{Names, Step, MayEnd, GoesOn, firm, pure, then}
 

@@ -1,10 +1,10 @@
 -- The files of a job, as steps.
 use Rattle.std.specs.Prelude.{◌≡◌, ◌⊎◌, ℕ, List, [], ◌∷◌, Option}
 use Rattle.qc_io.specs.Device.{Texts, IsText, IsTooLong, IsMissing}
-use Rattle.qcert.specs.declared.refusal.File.{File}
-use Rattle.qcert.specs.declared.refusal.File.TheVariants.{Schema, Query, Input, Script}
-use Rattle.qcert.specs.declared.refusal.Refusal.{Refusal}
-use Rattle.qcert.specs.declared.refusal.Refusal.TheVariants.{ReadFault, TooLong, Memory}
+use Rattle.qc_work.specs.declared.refusal.File.{File}
+use Rattle.qc_work.specs.declared.refusal.File.TheVariants.{Schema, Query, Input, Script}
+use Rattle.qc_work.specs.declared.refusal.Refusal.{Refusal}
+use Rattle.qc_work.specs.declared.refusal.Refusal.TheVariants.{ReadFault, TooLong, Memory}
 use Rattle.qcert.specs.Steps.{Step, firm, then}
 
 -- the most bytes of a file

@@ -2,11 +2,11 @@
 use Rattle.std.specs.Prelude.{ℕ, List, [], ◌∷◌, Option, Some, None, Bool, if◌then◌else◌, ◌&&◌, codes, option_and_then}
 use Rattle.std.specs.Option.{option_copied}
 use Rattle.std.specs.Str.{bytes_eq}
+use Rattle.qc_work.specs.declared.sources.Source.{Source}
+use Rattle.qc_work.specs.declared.sources.Source.TheVariants.{Oql}
 use Rattle.qcert.specs.declared.job.Job.{Job as HeldJob}
 use Rattle.qcert.specs.declared.job.Job.TheVariants as held
 use Rattle.qcert.specs.declared.job.Subject.{Subject as HeldSubject}
-use Rattle.qcert.specs.declared.sources.Source.{Source}
-use Rattle.qcert.specs.declared.sources.Source.TheVariants.{Oql}
 
 -- the query in the file of this name, and the file of its schema, if one is named
 pub record Subject : Type 0 where

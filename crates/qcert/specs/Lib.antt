@@ -1,12 +1,7 @@
-pub mod Causes
 pub mod Delivery
 pub mod Files
 pub mod Jobs
-pub mod Lowering
 pub mod Ran
 pub mod Reading
-pub mod Right
-pub mod Sources
 pub mod Steps
-pub mod Work
 pub mod inner

@@ -3,16 +3,16 @@ use Rattle.std.specs.Prelude.{◌≡◌, ℕ, List, ◌++◌, Option, Some, None
 use Rattle.std.specs.Io.KnownBytes.{append_known}
 use Rattle.qc_data.specs.Outcome.{bits64}
 use Rattle.qc_io.specs.Device.{Texts, HasAsked}
-use Rattle.qcert.specs.declared.refusal.Refusal.{Refusal}
-use Rattle.qcert.specs.declared.refusal.Refusal.TheVariants.{Usage}
-use Rattle.qcert.specs.declared.sources.Checked.{Checked}
+use Rattle.qc_work.specs.declared.refusal.Refusal.{Refusal}
+use Rattle.qc_work.specs.declared.refusal.Refusal.TheVariants.{Usage}
+use Rattle.qc_work.specs.declared.sources.Checked.{Checked}
+use Rattle.qc_work.specs.Right.{IsRight}
+use Rattle.qc_work.specs.Sources.{meaning_of}
+use Rattle.qc_work.specs.Work.{Work, IsTextFor, IsClear}
 use Rattle.qcert.specs.Delivery.{Put, IsDelivered}
 use Rattle.qcert.specs.Jobs.{Subject, Job, job_of}
 use Rattle.qcert.specs.Reading.{checked_in, read, files_of, serve}
-use Rattle.qcert.specs.Right.{IsRight}
-use Rattle.qcert.specs.Sources.{meaning_of}
 use Rattle.qcert.specs.Steps.{Names, Visit, HasFailed, MayEnd, Ended}
-use Rattle.qcert.specs.Work.{Work, IsTextFor, IsClear}
 
 -- the words may end so: without a job nothing is asked for, and a job is served
 pub data IsEnding (words : List (List ℕ)) (shelf : Visit) (ending : Result (List ℕ) Refusal) : Type 0 where

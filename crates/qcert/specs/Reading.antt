@@ -1,33 +1,22 @@
 -- The files of a job, read in order: its schema, its query and its input.
-use Rattle.std.specs.Prelude.{◌≡◌, ◌≢◌, ℕ, List, [], ◌∷◌, ◌++◌, Option, Some, None, codes}
-use Rattle.qc_data.specs.declared.data.Datum.{Datum}
+use Rattle.std.specs.Prelude.{ℕ, List, [], ◌∷◌, ◌++◌, Option, Some, None, codes}
 use Rattle.qc_lex.specs.declared.token.Placed.{Placed}
 use Rattle.qc_types.specs.Schemas.{SchemaOf, WorldOf}
-use Rattle.qc_schema.specs.Inputs.{MeansWorld}
 use Rattle.qc_schema.specs.SchemaFile.{MeansSchema}
-use Rattle.qc_source.specs.declared.fault.QueryFault.{QueryFault}
-use Rattle.qc_source.specs.declared.fault.QueryFault.TheVariants as fault
-use Rattle.qc_source.specs.Queries.{IsTokens, IsScanFault}
-use Rattle.qcert.specs.declared.refusal.File.TheVariants as file
-use Rattle.qcert.specs.declared.refusal.Refusal.{Refusal}
-use Rattle.qcert.specs.declared.refusal.Refusal.TheVariants.{BadSchema, BadInput}
-use Rattle.qcert.specs.declared.sources.Checked.{Checked}
-use Rattle.qcert.specs.declared.sources.Query.{Query}
-use Rattle.qcert.specs.declared.sources.Source.{Source}
-use Rattle.qcert.specs.Causes.{of_query}
+use Rattle.qc_source.specs.Queries.{IsTokens}
+use Rattle.qc_work.specs.declared.refusal.File.TheVariants as file
+use Rattle.qc_work.specs.declared.sources.Checked.{Checked}
+use Rattle.qc_work.specs.declared.sources.Query.{Query}
+use Rattle.qc_work.specs.declared.sources.Source.{Source}
+use Rattle.qc_work.specs.Reading.{IsBadSchema, IsBadScan, IsBadQuery, IsInput, IsBadInput}
+use Rattle.qc_work.specs.Sources.{table_of, IsQuery}
+use Rattle.qc_work.specs.Work as work
+use Rattle.qc_work.specs.Work.{Work, IsTextFor, Refuses, IsClear}
 use Rattle.qcert.specs.Files.{read_as}
 use Rattle.qcert.specs.Jobs.{Subject, Job, Check, Compile, Run}
-use Rattle.qcert.specs.Right.{world_in}
-use Rattle.qcert.specs.Sources.{table_of, IsQuery, IsFault}
 use Rattle.qcert.specs.Steps.{Names, Step, firm, pure, then}
-use Rattle.qcert.specs.Work as work
-use Rattle.qcert.specs.Work.{Work, act}
 
 -- ---- the schema, from a file or without one
-
--- the text means no schema
-abbrev pub IsBadSchema : List ℕ → Refusal → Type 0
-IsBadSchema bytes r = (r ≡ BadSchema) × ((schema : SchemaOf) → ¬ MeansSchema bytes schema)
 
 -- a job without a schema's file has the schema without classes and globals
 abbrev pub schema_of : Option (List ℕ) → Step SchemaOf
@@ -36,21 +25,9 @@ schema_of (Some name) = read_as MeansSchema IsBadSchema file.Schema name
 
 -- ---- the query: its tokens, and then what they spell
 
--- it is refused for one of these faults; want of memory is none
-abbrev pub IsForFault : (QueryFault → Type 0) → Refusal → Type 0
-IsForFault IsFault r = (f : QueryFault) × (f ≢ fault.Memory) × IsFault f × (r ≡ of_query f)
-
--- the text is no tokens of the source, or too many
-abbrev pub IsBadScan : Source → List ℕ → Refusal → Type 0
-IsBadScan source bytes r = IsForFault (IsScanFault (table_of source) bytes) r
-
 -- the tokens in the query's file
 abbrev pub tokens_in : Source → List ℕ → Step (List Placed)
 tokens_in source name = read_as (IsTokens (table_of source)) (IsBadScan source) file.Query name
-
--- the tokens spell no query of the schema
-abbrev pub IsBadQuery : Source → SchemaOf → List Placed → Refusal → Type 0
-IsBadQuery source schema words r = IsForFault (IsFault source schema words) r
 
 -- the query of this schema in the file of this name
 abbrev pub query_in : Source → SchemaOf → List ℕ → Step Query
@@ -64,15 +41,6 @@ checked_in subject = then (schema_of subject.schema)
     (λ query. pure (record { schema = schema; query = query })))
 
 -- ---- the input, from a file or without one
-
--- the text means this world of the schema
-pub record IsInput (schema : SchemaOf) (bytes : List ℕ) (world : WorldOf) : Type 0 where
-  pub means : MeansWorld bytes schema world.datum
-  pub is_world : world ≡ world_in schema world.datum
-
--- the text means no world of the schema
-abbrev pub IsBadInput : SchemaOf → List ℕ → Refusal → Type 0
-IsBadInput schema bytes r = (r ≡ BadInput) × ((world : Datum) → ¬ MeansWorld bytes schema world)
 
 -- a job without an input's file has the input `{}`
 abbrev pub input_of : SchemaOf → Option (List ℕ) → Step WorldOf
@@ -98,6 +66,10 @@ abbrev pub files_of : Job → Names
 files_of (Check subject) = names_of subject.schema ++ subject.query ∷ []
 files_of (Compile subject) = names_of subject.schema ++ subject.query ∷ []
 files_of (Run subject input) = (names_of subject.schema ++ subject.query ∷ []) ++ names_of input
+
+-- the text that the work gives where there is no cause to refuse it
+abbrev pub act : Work → Step (List ℕ)
+act work = firm (λ text. IsTextFor work text × IsClear work) (Refuses work)
 
 -- the files of the job are read, and then the work is done
 abbrev pub serve : Job → Step (List ℕ)

@@ -5,7 +5,7 @@ ghost use Rattle.std.specs.Rc.{rc_str_bytes};
 ghost use Rattle.qcert.specs.Jobs.{job_of, source_of, are_options, with_schema, job_on, alone, with_input};
 ghost use Rattle.qcert.specs.Jobs.{subject_seen, job_seen};
 
-use crate::sources::Source;
+use qc_work::Source;
 use std::rc::RcStr;
 
 /// The query in the file of this name, and the file of its schema, if one is named.

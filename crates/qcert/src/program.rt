@@ -2,16 +2,17 @@
 ghost use Rattle.std.specs.Prelude.{◌≡◌, ◌⊎◌, Ok, Some, map};
 ghost use Rattle.std.specs.Rc.{rc_str_bytes};
 ghost use Rattle.qc_io.specs.Device.{Rose};
-ghost use Rattle.qcert.specs.declared.refusal.Refusal.{Refusal as Refused};
-ghost use Rattle.qcert.specs.Delivery.{status_of, put, Complains, IsDelivered, IsRefusedFor};
+ghost use Rattle.qc_work.specs.declared.refusal.Refusal.{Refusal as Refused};
+ghost use Rattle.qc_work.specs.Refusals.{status_of};
+ghost use Rattle.qcert.specs.Delivery.{put, Complains, IsDelivered, IsRefusedFor};
 ghost use Rattle.qcert.specs.Jobs.{Subject, Compile, job_of};
 ghost use Rattle.qcert.specs.Ran.{Ran, HasAskedFor, IsServed, IsCompiled, IsServable, IsDue};
 ghost use Rattle.qcert.specs.Steps.{visit};
 
-use crate::refusal::Refusal;
 use crate::serving::ending;
 use crate::telling::tell;
 use qc_io::{Shelf, Sink};
+use qc_work::Refusal;
 use std::alloc::Global;
 use std::rc::RcStr;
 

@@ -10,11 +10,10 @@ ghost use Rattle.qcert.specs.Reading.{serve};
 ghost use Rattle.qcert.specs.Steps.{visit};
 ghost use Rattle.qcert.specs.inner.Promises.{Stage};
 
-use crate::actions::{answer_line, program_text, type_line};
 use crate::job::{Job, Subject, job_of};
-use crate::refusal::Refusal;
 use crate::stages::{checked_in, input_of};
 use qc_io::Shelf;
+use qc_work::{Refusal, answer_line, program_text, type_line};
 use std::alloc::Global;
 use std::rc::RcStr;
 

@@ -3,21 +3,20 @@ ghost use Rattle.std.specs.Prelude.{◌≤◌, ◌≡◌, length, IfOk};
 ghost use Rattle.std.specs.Option.{option_copied};
 ghost use Rattle.std.specs.Result.{result_map_both};
 ghost use Rattle.qc_schema.specs.SchemaFile.{MeansSchema};
-ghost use Rattle.qcert.specs.declared.refusal.File.TheVariants as file;
+ghost use Rattle.qc_work.specs.declared.refusal.File.TheVariants as file;
+ghost use Rattle.qc_work.specs.Promises.{HasItsType};
+ghost use Rattle.qc_work.specs.Reading.{IsBadSchema, IsInput, IsBadInput};
 ghost use Rattle.qcert.specs.Files.{fetch, most_of, read_as};
 ghost use Rattle.qcert.specs.Jobs.{subject_seen};
-ghost use Rattle.qcert.specs.Reading.{IsBadSchema, schema_of, tokens_in, query_in, checked_in};
-ghost use Rattle.qcert.specs.Reading.{IsInput, IsBadInput, input_of};
+ghost use Rattle.qcert.specs.Reading.{schema_of, tokens_in, query_in, checked_in, input_of};
 ghost use Rattle.qcert.specs.Steps.{visit};
-ghost use Rattle.qcert.specs.inner.Promises.{HasItsType, Stage};
+ghost use Rattle.qcert.specs.inner.Promises.{Stage};
 
 use crate::job::Subject;
-use crate::reading::{input_in, query_in, schema_in, tokens_in};
-use crate::refusal::{File, Refusal};
-use crate::sources::{Checked, Query, Source};
 use qc_io::{FetchFault, Shelf};
 use qc_lex::Words;
 use qc_types::{Schema, World};
+use qc_work::{Checked, File, Query, Refusal, Source, input_in, query_in, schema_in, tokens_in};
 use std::alloc::Global;
 
 /// The subject's schema, and its query in it.

@@ -1,12 +1,13 @@
 // The line that tells of a refusal, put piece by piece.
 ghost use Rattle.std.specs.Prelude.{◌≡◌, ◌≤◌, map};
 ghost use Rattle.qc_io.specs.Device.{Rose};
-ghost use Rattle.qcert.specs.Delivery.{file_word, put, Complains, IsPut};
+ghost use Rattle.qc_work.specs.Refusals.{file_word};
+ghost use Rattle.qcert.specs.Delivery.{put, Complains, IsPut};
 ghost use Rattle.qcert.specs.inner.Pieces.{all_pieces};
 
-use crate::refusal::{File, Refusal};
 use itoa::Buffer;
 use qc_io::{Failed, Sink};
+use qc_work::{File, Refusal};
 
 /// Puts the line that tells of the refusal, or a front of it where the sink fails.
 pub fn tell<E: Sink>(refusal: Refusal, err: &mut E)

@@ -2,7 +2,7 @@
 #![tactic(auto)]
 
 use qc_io::{FileShelf, StdSink};
-use qcert::Refusal;
+use qc_work::Refusal;
 use std::env;
 use std::io::{self, ErrorKind};
 use std::process::ExitCode;

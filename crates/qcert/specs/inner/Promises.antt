@@ -1,31 +1,10 @@
 -- What the functions of a job promise each other.
-use Rattle.std.specs.Prelude.{◌≡◌, ◌≤◌, ◌⊎◌, ℕ, List, Result, Some, MatchResult}
-use Rattle.qc_data.specs.Outcome.{Mode}
+use Rattle.std.specs.Prelude.{◌≤◌, ℕ, Result}
 use Rattle.qc_io.specs.Device.{Rose}
-use Rattle.qc_lang.specs.Keeping.{IsOf}
-use Rattle.qc_types.specs.Schemas.{SchemaOf, WorldOf}
-use Rattle.qc_typing.specs.Typed.{IsTyped}
-use Rattle.qcert.specs.declared.refusal.Refusal.{Refusal}
-use Rattle.qcert.specs.declared.refusal.Refusal.TheVariants.{Memory}
-use Rattle.qcert.specs.declared.sources.Query.{Query}
-use Rattle.qcert.specs.Sources.{meaning_of, type_of}
+use Rattle.qc_work.specs.declared.refusal.Refusal.{Refusal}
 use Rattle.qcert.specs.Steps.{Step, Visit, Ended}
-use Rattle.qcert.specs.Work.{Work, IsTextFor, Refuses, IsClear}
 
 -- the step ended so, also where it is told of counts of faults from earlier and later
 abbrev pub Stage : {A : Type 0} → Step A → Visit → Result A Refusal → Type 0
 Stage s v ending =
     (before after : ℕ) → before ≤ v.faults_old → v.faults_new ≤ after → Ended s v (Rose before after) ending
-
--- the value is accepted, or it is refused so, or memory was wanting
-abbrev pub Computes : {A : Type 0} → (A → Type 0) → (Refusal → Type 0) → Result A Refusal → Type 0
-Computes Accepts Refuses result = MatchResult result Accepts (λ r. Refuses r ⊎ (r ≡ Memory))
-
--- the work was done
-abbrev pub Acts : {T : Type 0} → (T → List ℕ) → Work → Result T Refusal → Type 0
-Acts bytes work result = Computes (λ text. IsTextFor work (bytes text) × IsClear work) (Refuses work) result
-
--- in each world of the schema the query has a value of its type at any size, and within bounds the same value or Range
-abbrev pub HasItsType : SchemaOf → Query → Type 0
-HasItsType schema query =
-    (w : WorldOf) → IsOf schema w → IsTyped schema.classes (Some (type_of query)) (λ (m : Mode). meaning_of query m w)

@@ -1,5 +1,5 @@
 use Rattle.std.proofs.Common.{sym, codes}
-use Rattle.qcert.specs.Reading.{IsInput, IsBadInput}
+use Rattle.qc_work.specs.Reading.{IsInput, IsBadInput}
 use Rattle.qcert.proofs.StageLemmas.{computed}
 use Rattle.qcert.proofs.stages.input_of.Goals as goal
 

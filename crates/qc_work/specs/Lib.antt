@@ -1,0 +1,8 @@
+pub mod Causes
+pub mod Lowering
+pub mod Promises
+pub mod Reading
+pub mod Refusals
+pub mod Right
+pub mod Sources
+pub mod Work

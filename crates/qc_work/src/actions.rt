@@ -1,0 +1,57 @@
+// What is done with a query: the line of its type, its program, and the line of its answer.
+ghost use Rattle.std.specs.Prelude.{◌≡◌, ◌⊎◌, None, IfOk, MatchResult};
+ghost use Rattle.std.specs.String.{string_bytes};
+ghost use Rattle.qc_lang.specs.Keeping.{IsOf};
+ghost use Rattle.qc_work.specs.Work.{line, Check, Compile, Run};
+ghost use Rattle.qc_work.specs.Promises.{Acts, HasItsType};
+
+use crate::lower::lower_query;
+use crate::refusal::Refusal;
+use crate::sources::{Checked, evaluate, type_of};
+use qc_containers::Memory;
+use qc_data::{Halt, enc};
+use qc_js::{Js, emit_text};
+use qc_schema::{json_text, type_text};
+use qc_types::World;
+use std::alloc::Global;
+
+/// The JSON of the query's type and a line feed.
+pub fn type_line(alloc: Global, checked: &Checked) -> Result<String, Refusal>
+    ensures { Acts string_bytes (Check checked.now) result }
+{
+    Ok(line(alloc, type_text(alloc, type_of(&checked.query))?.as_str())?)
+}
+
+/// The text of the query's program, where it is compiled.
+pub fn program_text(alloc: Global, checked: &Checked) -> Result<String, Refusal>
+    requires typed { HasItsType checked.now.schema checked.now.query }
+    ensures { Acts string_bytes (Compile checked.now) result }
+{
+    let Some(result) = lower_query(alloc, &checked.query)? else {
+        return Err(Refusal::Unbuilt);
+    };
+    Ok(emit_text(alloc, &Js { result })?)
+}
+
+/// The JSON of the query's answer in a world, and a line feed.
+pub fn answer_line(alloc: Global, checked: &Checked, world: &World) -> Result<String, Refusal>
+    requires typed { HasItsType checked.now.schema checked.now.query }
+    requires world { IsOf checked.now.schema world.now }
+    ensures { Acts string_bytes (Run checked.now world.now) result }
+{
+    match evaluate(alloc, &checked.query, world) {
+        Ok(answer) => Ok(line(alloc, json_text(alloc, &enc(alloc, &answer)?)?.as_str())?),
+        Err(Halt::Range) => Err(Refusal::Range),
+        Err(Halt::Stuck) => unreachable!(),
+        Err(Halt::Memory) => Err(Refusal::Memory),
+    }
+}
+
+// The text and a line feed.
+fn line(alloc: Global, text: &str) -> Result<String, Memory>
+    ensures { IfOk result (λ made. string_bytes made ≡ line text.now) }
+{
+    let mut made = String::from_str(alloc, text)?;
+    made.push_str("\n")?;
+    Ok(made)
+}
