@@ -1,5 +1,5 @@
 // Texts.
-ghost use Rattle.std.specs.Prelude.{◌≡◌, IfOk};
+ghost use Rattle.std.specs.Prelude.{◌≡◌, ◌++◌, IfOk};
 
 use crate::memory::Memory;
 use crate::share::Share;
@@ -28,6 +28,17 @@ impl Chars {
         ensures { IfOk result (λ chars. chars ≡ text.now) }
     {
         let text = RcStr::from_str(alloc, text)?;
+        Ok(Chars { text })
+    }
+
+    /// The first text and then the second, each copied once.
+    pub fn joined(alloc: Global, first: &str, second: &str) -> Result<Chars, Memory>
+        ensures { IfOk result (λ both. both ≡ first.now ++ second.now) }
+    {
+        let mut both = String::with_capacity(alloc, first.len() + second.len())?;
+        both.push_str(first)?;
+        both.push_str(second)?;
+        let text = RcStr::from_string(both)?;
         Ok(Chars { text })
     }
 
