@@ -90,6 +90,12 @@ pub nothing_before : {A : Type 0} (o : Option (List A)) → option_map (λ xs. [
 nothing_before None = refl
 nothing_before (Some xs) = refl
 
+-- one item more
+pub one_more : {A : Type 0} (all : List A) (a : A) (o : Option (List A))
+    → option_map (λ xs. all ++ xs) (option_map (λ xs. a ∷ xs) o) ≡ option_map (λ xs. (all ++ a ∷ []) ++ xs) o
+one_more all a None = refl
+one_more all a (Some xs) = ap Some (sym (append_assoc all (a ∷ []) xs))
+
 -- before the first pair
 pub slice_starts : {T U : Type 0} (all : List (List ℕ × U)) (ps : List (List ℕ × T)) → all ≡ [] → Rising ps
     → Rising (names all ++ names ps)

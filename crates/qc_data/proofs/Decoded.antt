@@ -1,7 +1,6 @@
 -- An object decoded part by part.
 use Rattle.std.proofs.Common.{unwrap_or, ◌≡◌, ℕ, List, [], ◌∷◌, ◌++◌, map, get_or, length, Option, Some, None}
 use Rattle.std.proofs.Common.{option_map, option_and_then, cond, true, false, refl, sym, ap, ◌∙◌, arith}
-use Rattle.std.proofs.Common.{append_assoc}
 use Rattle.qc_containers.specs.Rising.{on_value}
 use Rattle.std.specs.Prelude.{codes, ◌&&◌, Bool, slice_get}
 use Rattle.std.specs.Str.{bytes_eq}
@@ -10,7 +9,7 @@ use Rattle.qc_data.specs.declared.data.Datum.TheVariants.{Brand}
 use Rattle.qc_data.specs.declared.data.Datum.{Datum}
 use Rattle.qc_data.specs.declared.data.Json.{Json}
 use Rattle.qc_containers.specs.Name.{is_name}
-use Rattle.qc_containers.proofs.Appending.{nothing_before}
+use Rattle.qc_containers.proofs.Appending.{nothing_before, one_more}
 use Rattle.qc_data.proofs.DecodingLaws.{plain_is}
 
 -- before the first member
@@ -90,11 +89,6 @@ named_plain (p ∷ ps) n e h =
 pub none_taken : (all : List (List ℕ × Datum)) (it ps : List (List ℕ × Json)) → all ≡ [] → it ≡ ps
     → fields_of (decs ps) ≡ option_map (λ fs. all ++ fs) (fields_of (decs it))
 none_taken all it ps none is = rw (none, is) (sym (nothing_before (fields_of (decs ps))))
-
-one_more : {A : Type 0} (all : List A) (a : A) (o : Option (List A))
-    → option_map (λ xs. all ++ xs) (option_map (λ xs. a ∷ xs) o) ≡ option_map (λ xs. (all ++ a ∷ []) ++ xs) o
-one_more all a None = refl
-one_more all a (Some xs) = ap Some (sym (append_assoc all (a ∷ []) xs))
 
 -- the fields from one that has a name and a datum
 field_at : (b : Bool) (s n : List ℕ) (rest : Option (List (List ℕ × Datum))) (o : Option Datum) (d : Datum)

@@ -8,8 +8,8 @@ use crate::decoding::decode_object;
 use qc_containers::{Memory, Name, is_name};
 use std::alloc::Global;
 
-/// The datum whose encoding is the tree, as `dec` gives it. What no other tree shares is moved, and each part of the
-/// tree is freed as soon as it is decoded.
+/// The datum whose encoding is the tree, as `dec` gives it. What no other tree shares is moved. Items of an array and
+/// members of a record are freed one by one, as soon as each is decoded; an object with a marker is freed as a whole.
 #[cycle(take)]
 pub fn into_datum(alloc: Global, j: Json) -> Result<Option<Datum>, Memory>
     ensures { IfOk result (λ decoded. decoded ≡ dec j) }
