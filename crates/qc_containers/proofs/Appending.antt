@@ -62,9 +62,39 @@ pub slice_goes : {T U : Type 0} (all new : List (List ℕ × U)) (ps : List (Lis
 slice_goes all new ps k p n u lt at is made r =
     goes_last all new (names (drop (k + 1) ps)) n u made (next_name all ps k p n lt at is r)
 
+-- the names to come, of an iterator that owns its pairs
+next_left : {T U : Type 0} (all : List (List ℕ × U)) (it left : List (List ℕ × T)) (p : List ℕ × T) (n : List ℕ)
+    → it ≡ p ∷ left → n ≡ p.0 → Rising (names all ++ names it) → Rising (names all ++ (n, tt) ∷ names left)
+next_left all it left p n step is r =
+    subst (λ m. Rising (names all ++ (m, tt) ∷ names left)) (sym is)
+    (subst (λ l. Rising (names all ++ names l)) step r)
+
+-- before the first of them
+pub left_starts : {T U : Type 0} (all : List (List ℕ × U)) (it ps : List (List ℕ × T)) → all ≡ [] → it ≡ ps → Rising ps
+    → Rising (names all ++ names it)
+left_starts all it ps none is r = rw (none, is) (Rising-to bare ps r)
+
+-- a pair of the iterator's next name may go last
+pub left_push : {T U : Type 0} (all : List (List ℕ × U)) (it left : List (List ℕ × T)) (p : List ℕ × T) (n : List ℕ)
+    (u : U) → it ≡ p ∷ left → n ≡ p.0 → Rising (names all ++ names it) → Rising (all ++ (n, u) ∷ [])
+left_push all it left p n u step is r = may_go_last all (names left) n u (next_left all it left p n step is r)
+
+-- and then the names to come rise from there
+pub left_goes : {T U : Type 0} (all new : List (List ℕ × U)) (it left : List (List ℕ × T)) (p : List ℕ × T)
+    (n : List ℕ) (u : U) → it ≡ p ∷ left → n ≡ p.0 → new ≡ all ++ (n, u) ∷ [] → Rising (names all ++ names it)
+    → Rising (names new ++ names left)
+left_goes all new it left p n u step is made r =
+    goes_last all new (names left) n u made (next_left all it left p n step is r)
+
 pub nothing_before : {A : Type 0} (o : Option (List A)) → option_map (λ xs. [] ++ xs) o ≡ o
 nothing_before None = refl
 nothing_before (Some xs) = refl
+
+-- one item more
+pub one_more : {A : Type 0} (all : List A) (a : A) (o : Option (List A))
+    → option_map (λ xs. all ++ xs) (option_map (λ xs. a ∷ xs) o) ≡ option_map (λ xs. (all ++ a ∷ []) ++ xs) o
+one_more all a None = refl
+one_more all a (Some xs) = ap Some (sym (append_assoc all (a ∷ []) xs))
 
 -- before the first pair
 pub slice_starts : {T U : Type 0} (all : List (List ℕ × U)) (ps : List (List ℕ × T)) → all ≡ [] → Rising ps

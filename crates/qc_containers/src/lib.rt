@@ -15,7 +15,7 @@ mod text_map;
 pub use boxed::Boxed;
 pub use list::List;
 pub use memory::Memory;
-pub use name::{Name, NameFault};
+pub use name::{Name, NameFault, is_name};
 pub use name_map::NameMap;
 pub use share::Share;
 pub use shared_list::SharedList;

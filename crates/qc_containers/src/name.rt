@@ -1,5 +1,5 @@
 // Names of fields and classes.
-ghost use Rattle.std.specs.Prelude.{◌≡◌, ◌↔◌, IfOk, IsTrue, false};
+ghost use Rattle.std.specs.Prelude.{◌≡◌, ◌↔◌, IfOk, IsTrue, Some, None, cond, false};
 ghost use Rattle.qc_containers.specs.Name.{is_marker, is_name, IsUser};
 
 use crate::memory::Memory;
@@ -53,6 +53,17 @@ impl Name {
         }
     }
 
+    /// The name that the text spells, which keeps the text: `None` exactly where it is none.
+    pub fn spelled(text: Chars) -> Option<Name>
+        ensures { result ≡ cond (is_name text) (Some text) None }
+    {
+        if is_name(text.as_str()) {
+            Some(Name { text })
+        } else {
+            None
+        }
+    }
+
     /// The name's text.
     pub fn as_str(&self) -> &str
         ensures text { result.now ≡ self.now }
@@ -90,8 +101,8 @@ fn is_marker(text: &str) -> bool
     text == "$left" || text == "$right" || text == "$class" || text == "$data"
 }
 
-// Whether the text is a name.
-fn is_name(text: &str) -> bool
+/// Whether the text is a name.
+pub fn is_name(text: &str) -> bool
     ensures { result ≡ is_name text.now }
 {
     !text.is_empty() && text.len() <= 64 && !is_marker(text)

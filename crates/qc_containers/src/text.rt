@@ -1,5 +1,6 @@
 // Texts.
-ghost use Rattle.std.specs.Prelude.{◌≡◌, IfOk};
+ghost use Rattle.std.specs.Prelude.{◌≡◌, ◌++◌, IfOk};
+ghost use Rattle.std.specs.String.{string_bytes};
 
 use crate::memory::Memory;
 use crate::share::Share;
@@ -29,6 +30,24 @@ impl Chars {
     {
         let text = RcStr::from_str(alloc, text)?;
         Ok(Chars { text })
+    }
+
+    /// The text of a string, which is moved and not copied.
+    pub fn from_string(text: String) -> Result<Chars, Memory>
+        ensures { IfOk result (λ chars. chars ≡ string_bytes text) }
+    {
+        let text = RcStr::from_string(text)?;
+        Ok(Chars { text })
+    }
+
+    /// The first text and then the second, each copied once.
+    pub fn joined(alloc: Global, first: &str, second: &str) -> Result<Chars, Memory>
+        ensures { IfOk result (λ both. both ≡ first.now ++ second.now) }
+    {
+        let mut both = String::with_capacity(alloc, first.len() + second.len())?;
+        both.push_str(first)?;
+        both.push_str(second)?;
+        Chars::from_string(both)
     }
 
     /// The text.

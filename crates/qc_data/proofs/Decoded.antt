@@ -2,13 +2,15 @@
 use Rattle.std.proofs.Common.{unwrap_or, ◌≡◌, ℕ, List, [], ◌∷◌, ◌++◌, map, get_or, length, Option, Some, None}
 use Rattle.std.proofs.Common.{option_map, option_and_then, cond, true, false, refl, sym, ap, ◌∙◌, arith}
 use Rattle.qc_containers.specs.Rising.{on_value}
-use Rattle.std.specs.Prelude.{codes, ◌&&◌, Bool}
+use Rattle.std.specs.Prelude.{codes, ◌&&◌, Bool, slice_get}
 use Rattle.std.specs.Str.{bytes_eq}
 use Rattle.qc_data.specs.Decoding.{dec, fields_of, object_of, plain, branded, name_of}
 use Rattle.qc_data.specs.declared.data.Datum.TheVariants.{Brand}
 use Rattle.qc_data.specs.declared.data.Datum.{Datum}
 use Rattle.qc_data.specs.declared.data.Json.{Json}
-use Rattle.qc_containers.proofs.Appending.{nothing_before}
+use Rattle.qc_containers.specs.Name.{is_name}
+use Rattle.qc_containers.proofs.Appending.{nothing_before, one_more}
+use Rattle.qc_data.proofs.DecodingLaws.{plain_is}
 
 -- before the first member
 pub none_decoded : (all : List (List ℕ × Datum)) (ps : List (List ℕ × Json)) → all ≡ []
@@ -75,3 +77,37 @@ brand_is v o x c d whole made p q e = made ∙ rw (p, q) e
 pub some_if : (b : Bool) (n s : List ℕ) → Some n ≡ cond b (Some s) None → n ≡ s
 some_if true n s e = ap (λ o. unwrap_or o n) e
 some_if false n s e = absurd (cc)
+
+-- an object whose first text is a name is a record
+pub named_plain : (ps : List (List ℕ × Json)) (n : List ℕ) → Some n ≡ option_map (λ p. p.0) (slice_get ps 0)
+    → is_name n ≡ true → object_of (decs ps) ≡ plain (decs ps)
+named_plain [] n e h = absurd (cc)
+named_plain (p ∷ ps) n e h =
+    plain_is (decs ps) p.0 (dec p.1) (ap (λ o. is_name (unwrap_or o n)) (sym e) ∙ h)
+
+-- before the first pair of an iterator that owns them
+pub none_taken : (all : List (List ℕ × Datum)) (it ps : List (List ℕ × Json)) → all ≡ [] → it ≡ ps
+    → fields_of (decs ps) ≡ option_map (λ fs. all ++ fs) (fields_of (decs it))
+none_taken all it ps none is = rw (none, is) (sym (nothing_before (fields_of (decs ps))))
+
+-- the fields from one that has a name and a datum
+field_at : (b : Bool) (s n : List ℕ) (rest : Option (List (List ℕ × Datum))) (o : Option Datum) (d : Datum)
+    → Some n ≡ cond b (Some s) None → Some d ≡ o
+    → cond b (option_and_then (λ d. option_map (λ fs. (s, d) ∷ fs) rest) o) None
+    ≡ option_map (λ fs. (n, d) ∷ fs) rest
+field_at true s n rest o d e is =
+    rw (← is) (ap (λ m. option_map (λ fs. (m, d) ∷ fs) rest) (sym (some_if true n s e)))
+field_at false s n rest o d e is = absurd (cc)
+
+-- one field more
+pub field_more : (all new : List (List ℕ × Datum)) (it left : List (List ℕ × Json)) (p : List ℕ × Json) (n : List ℕ)
+    (d : Datum) (whole : Option (List (List ℕ × Datum))) → it ≡ p ∷ left → Some n ≡ cond (is_name p.0) (Some p.0) None
+    → Some d ≡ dec p.1 → new ≡ all ++ (n, d) ∷ []
+    → whole ≡ option_map (λ fs. all ++ fs) (fields_of (decs it))
+    → whole ≡ option_map (λ fs. new ++ fs) (fields_of (decs left))
+field_more all new it left p n d whole step named is made w =
+    let rest = fields_of (decs left) in
+    let at : fields_of (decs it) ≡ option_map (λ fs. (n, d) ∷ fs) rest
+    = ap (λ l. fields_of (decs l)) step ∙ field_at (is_name p.0) p.0 n rest (dec p.1) d named is in
+    w ∙ ap (option_map (λ fs. all ++ fs)) at ∙ one_more all (n, d) rest
+    ∙ ap (λ l. option_map (λ fs. l ++ fs) rest) (sym made)

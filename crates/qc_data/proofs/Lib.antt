@@ -1,6 +1,7 @@
 pub mod CanonLaws
 mod Decoded
 pub mod DecodingLaws
+mod Depths
 pub mod Encoded
 pub mod FactLaws
 pub mod HeldLaws

@@ -50,7 +50,7 @@ fn decode_items(alloc: Global, items: &Jsons) -> Result<Option<Items>, Memory>
 
 // An object is a side, a class value or a record.
 #[cycle(decode)]
-fn decode_object(alloc: Global, members: &Members) -> Result<Option<Datum>, Memory>
+pub(crate) fn decode_object(alloc: Global, members: &Members) -> Result<Option<Datum>, Memory>
     ensures { IfOk result (λ decoded. decoded ≡ object_of (map (on_value dec) members.now)) }
 {
     let count = members.len();

@@ -9,6 +9,7 @@ mod facts;
 mod halt;
 mod order;
 mod sameness;
+mod taking;
 
 pub use copying::{copy, copy_json};
 pub use data::{Datum, Fields, Items, Json, Jsons, Members};
@@ -18,3 +19,4 @@ pub use facts::{held, one_to_one};
 pub use halt::Halt;
 pub use order::cmp;
 pub use sameness::{canon, same};
+pub use taking::into_datum;

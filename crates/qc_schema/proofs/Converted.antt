@@ -1,6 +1,6 @@
 -- A JSON value converted part by part.
-use Rattle.std.proofs.Common.{◌≡◌, ℕ, List, [], ◌∷◌, ◌++◌, Option, Some, None, option_map, option_and_then}
-use Rattle.std.proofs.Common.{string_bytes, String, Global, Less, map, refl, sym, ap, subst, ◌∙◌, append_assoc}
+use Rattle.std.proofs.Common.{◌≡◌, ℕ, List, [], ◌∷◌, ◌++◌, Option, Some, option_map, option_and_then}
+use Rattle.std.proofs.Common.{string_bytes, String, Global, Less, map, sym, ap, subst, ◌∙◌}
 use Rattle.std.specs.Prelude.{⊤}
 use Rattle.std.specs.List.{AllByRecursion}
 use Rattle.std.specs.List.Sorted.{IsStrictlySortedBy}
@@ -10,7 +10,7 @@ use Rattle.serde_json.specs.View.{view, members_view}
 use Rattle.serde_json.proofs.Views.{Entry}
 use Rattle.qc_containers.specs.Rising.{Rising, Above}
 use Rattle.qc_data.specs.declared.data.Json.{Json}
-use Rattle.qc_containers.proofs.Appending.{names, may_go_last, goes_last, nothing_before}
+use Rattle.qc_containers.proofs.Appending.{names, may_go_last, goes_last, nothing_before, one_more}
 use Rattle.qc_schema.specs.Reading.{of_data, of_members}
 
 -- the keys alone
@@ -43,11 +43,6 @@ pub still_rising : (all new : List (List ℕ × Json)) (it left : List Entry) (e
     → Rising (names new ++ keyed left)
 still_rising all new it left e n j step is made r =
     goes_last all new (keyed left) n j made (next_key all it left e n step is r)
-
-one_more : {A : Type 0} (all : List A) (a : A) (o : Option (List A))
-    → option_map (λ xs. all ++ xs) (option_map (λ xs. a ∷ xs) o) ≡ option_map (λ xs. (all ++ a ∷ []) ++ xs) o
-one_more all a None = refl
-one_more all a (Some xs) = ap Some (sym (append_assoc all (a ∷ []) xs))
 
 -- one member more
 pub members_more : (all new : List (List ℕ × Json)) (it left : List Entry) (e : Entry) (n : List ℕ) (j : Json)
