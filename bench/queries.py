@@ -1,5 +1,5 @@
 #!/usr/bin/env python3
-"""Times `check` of queries of about 1,000 tokens and of large schemas, and `run` over 100,000 rows and over 1,000 times 1,000 rows.
+"""Times `check` of queries of about 1,000 tokens and of large schemas.
 
 It lies outside the gate: run it by hand after `rt ci`. It runs `bin/qcert`, which is built first where it is stale, on files in a
 folder for temporary files. A machine that does other work makes the times longer.
@@ -13,8 +13,6 @@ import tempfile
 import time
 
 TOP = pathlib.Path(__file__).resolve().parent.parent
-EMPLOYEES = '{"version":1,"classes":[],"globals":{"emp":{"bag":{"record":{"age":"int","dept":"text","name":"text"}}}}}'
-PAIRS = '{"version":1,"classes":[],"globals":{"a":{"bag":{"record":{"k":"int","v":"int"}}},"b":{"bag":{"record":{"k":"int","w":"int"}}}}}'
 
 
 def nested_selects(depth):
@@ -39,39 +37,19 @@ def classes(count):
     return '{"version":1,"classes":[%s],"globals":{}}' % ",".join('{"name":"C%05d","parent":null,"type":{"record":{"a":"int"}}}' % i for i in range(count))
 
 
+def chain(count):
+    """Each class but the first is a child of the one before it."""
+    parent = lambda i: '"C%05d"' % (i - 1) if i else "null"
+    return '{"version":1,"classes":[%s],"globals":{}}' % ",".join('{"name":"C%05d","parent":%s,"type":{"record":{"a":"int"}}}' % (i, parent(i)) for i in range(count))
+
+
 def globals_of(count):
     return '{"version":1,"classes":[],"globals":{%s}}' % ",".join('"g%05d":"int"' % i for i in range(count))
 
 
 SCHEMAS = [("%d classes" % n, "1", classes(n)) for n in (1000, 2000, 4000)]
+SCHEMAS += [("a chain of %d classes" % n, "1", chain(n)) for n in (1000, 2000, 4000)]
 SCHEMAS.append(("400 uses of the last of 4,000 globals", " + ".join(["g03999"] * 400), globals_of(4000)))
-MEMBERS = '{"version":1,"classes":[],"globals":{"rs":{"bag":{"record":{"a":"int","b":"int"}}},"xs":{"bag":"int"}}}'
-
-
-def members(count):
-    """Integers without order, and records of them."""
-    mixed = [i * 7919 % count for i in range(count)]
-    return '{"rs":[%s],"xs":[%s]}' % (",".join('{"a":%d,"b":%d}' % (n, n % 3) for n in mixed), ",".join(map(str, mixed)))
-
-
-def employees(count):
-    return '{"emp":[' + ",".join('{"name":"Employee %d","age":%d,"dept":"d%d"}' % (i, (i * 7919) % 90, i % 7) for i in range(count)) + "]}"
-
-
-def pairs(count):
-    rows = lambda name: ",".join('{"k":%d,"%s":%d}' % ((i * 31) % count, name, i) for i in range(count))
-    return '{"a":[%s],"b":[%s]}' % (rows("v"), rows("w"))
-
-
-RUNS = [
-    ("reading 100,000 integers and records", "count(xs)", MEMBERS, members(100000)),
-    ("distinct of 100,000 integers", "count(distinct(xs))", MEMBERS, members(100000)),
-    ("distinct of 100,000 records", "count(distinct(rs))", MEMBERS, members(100000)),
-    ("except of 100,000 integers", "count(xs except xs)", MEMBERS, members(100000)),
-    ("filter and sort of 100,000 rows", "select x.name from x in emp where x.age > 30 order by x.age desc, x.name", EMPLOYEES, employees(100000)),
-    ("join of 1,000 and 1,000 rows", "select struct(v: x.v, w: y.w) from x in a, y in b where x.k = y.k", PAIRS, pairs(1000)),
-    ("join by a nested select", "select struct(v: x.v, ws: (select y.w from y in b where y.k = x.k)) from x in a", PAIRS, pairs(1000)),
-]
 
 
 def measure(words, folder):
@@ -99,12 +77,6 @@ def main():
             (folder / "s").write_text(schema)
             seconds, most = measure("check --source oql --query q --schema s".split(), folder)
             print("check, %s: %.3f s, %.0f MiB" % (title, seconds, most / 2**20))
-        for title, query, schema, text in RUNS:
-            (folder / "q").write_text(query)
-            (folder / "s").write_text(schema)
-            (folder / "i").write_text(text)
-            seconds, most = measure("run --source oql --query q --schema s --input i".split(), folder)
-            print("run, %s: %.2f s, %.0f MiB, of an input of %.1f MiB" % (title, seconds, most / 2**20, len(text) / 2**20))
 
 
 if __name__ == "__main__":
