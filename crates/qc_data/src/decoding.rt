@@ -5,7 +5,7 @@ ghost use Rattle.qc_data.specs.Decoding.{dec, Decodes, items_of, fields_of, obje
 ghost use Rattle.qc_containers.specs.Rising.{on_value};
 
 use crate::data::{Datum, Fields, Items, Json, Jsons, Members};
-use qc_containers::{Boxed, Memory, Name, NameFault};
+use qc_containers::{Boxed, Memory, Name};
 use std::alloc::Global;
 
 /// The datum whose encoding is the tree: `None` exactly where there is none.
@@ -145,11 +145,7 @@ fn class_name(alloc: Global, d: &Datum) -> Result<Option<Name>, Memory>
     ensures { IfOk result (λ decoded. decoded ≡ name_of d.now) }
 {
     match d {
-        Datum::Text(text) => match Name::of(alloc, text.as_str()) {
-            Ok(name) => Ok(Some(name)),
-            Err(NameFault::BadName) => Ok(None),
-            Err(NameFault::Memory) => Err(Memory),
-        },
+        Datum::Text(text) => Ok(Name::spelled(text.copy(alloc)?)),
         _ => Ok(None),
     }
 }
@@ -161,10 +157,8 @@ fn decode_fields(alloc: Global, members: &Members) -> Result<Option<Fields>, Mem
 {
     let mut all = Fields::new(alloc);
     for pair in members.as_slice() {
-        let name = match Name::of(alloc, pair.0.as_str()) {
-            Ok(name) => name,
-            Err(NameFault::BadName) => return Ok(None),
-            Err(NameFault::Memory) => return Err(Memory),
+        let Some(name) = Name::spelled(pair.0.copy(alloc)?) else {
+            return Ok(None);
         };
         match decode(alloc, &pair.1)? {
             Some(d) => all.add(name, d)?,

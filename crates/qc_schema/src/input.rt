@@ -5,7 +5,7 @@ ghost use Rattle.qc_schema.specs.Inputs.{MeansWorld};
 
 use crate::faults::InputFault;
 use crate::reading::read_json;
-use qc_data::dec;
+use qc_data::into_datum;
 use qc_types::{Schema, World, WorldFault};
 use std::alloc::Global;
 
@@ -17,7 +17,7 @@ pub fn read_input(alloc: Global, schema: &Schema, bytes: &[u8]) -> Result<World,
     ensures bad { result ≡ Err InputFault.BadInput → (d : Datum) → ¬ MeansWorld bytes.now schema.now d }
 {
     let tree = read_json(alloc, bytes)?;
-    let Some(datum) = dec(alloc, &tree)? else {
+    let Some(datum) = into_datum(alloc, tree)? else {
         return Err(InputFault::BadInput);
     };
     match World::of(alloc, schema, datum) {

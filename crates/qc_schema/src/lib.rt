@@ -7,6 +7,7 @@ mod input;
 mod reading;
 mod schema;
 mod sound;
+mod texts;
 mod typing;
 mod writing;
 

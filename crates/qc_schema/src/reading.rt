@@ -5,7 +5,8 @@ ghost use Rattle.qc_data.specs.declared.data.Json.{Json};
 ghost use Rattle.qc_schema.specs.Reading.{of_data, of_items, of_members, Means};
 
 use crate::faults::InputFault;
-use qc_containers::{Chars, Memory};
+use crate::texts::Texts;
+use qc_containers::Memory;
 use qc_data::{Json as Tree, Jsons, Members};
 use serde_json::{Map, Value};
 use std::alloc::Global;
@@ -17,7 +18,7 @@ pub fn read_json(alloc: Global, bytes: &[u8]) -> Result<Tree, InputFault>
     ensures bad { result ≡ Err InputFault.BadInput → (j : Json) → ¬ Means bytes.now j }
 {
     match Value::from_slice(alloc, bytes) {
-        Ok(value) => match convert(alloc, value)? {
+        Ok(value) => match convert(alloc, value, &mut Texts::new(alloc)?)? {
             Some(tree) => Ok(tree),
             None => Err(InputFault::BadInput),
         },
@@ -31,9 +32,10 @@ pub fn read_json(alloc: Global, bytes: &[u8]) -> Result<Tree, InputFault>
     }
 }
 
-// The value as a tree, where every number is an integer. Each part is freed as soon as its tree is made.
+// The value as a tree, where every number is an integer. Each part is freed as soon as its tree is made, and a text
+// that comes again is shared.
 #[cycle(convert)]
-fn convert(alloc: Global, value: Value) -> Result<Option<Tree>, Memory>
+fn convert(alloc: Global, value: Value, texts: &mut Texts) -> Result<Option<Tree>, Memory>
     ensures { IfOk result (λ o. o ≡ of_data (view value)) }
 {
     match value {
@@ -43,12 +45,12 @@ fn convert(alloc: Global, value: Value) -> Result<Option<Tree>, Memory>
             Some(n) => Ok(Some(Tree::Int(n))),
             None => Ok(None),
         },
-        Value::String(text) => Ok(Some(Tree::Text(Chars::of(alloc, text.as_str())?))),
-        Value::Array(items) => match convert_items(alloc, items)? {
+        Value::String(text) => Ok(Some(Tree::Text(texts.hold(text)?))),
+        Value::Array(items) => match convert_items(alloc, items, texts)? {
             Some(all) => Ok(Some(Tree::Array(all))),
             None => Ok(None),
         },
-        Value::Object(members) => match convert_members(alloc, members)? {
+        Value::Object(members) => match convert_members(alloc, members, texts)? {
             Some(all) => Ok(Some(Tree::Object(all))),
             None => Ok(None),
         },
@@ -57,12 +59,16 @@ fn convert(alloc: Global, value: Value) -> Result<Option<Tree>, Memory>
 
 // The same of each item.
 #[cycle(convert)]
-fn convert_items(alloc: Global, items: Vec<Value>) -> Result<Option<Jsons>, Memory>
+fn convert_items(
+    alloc: Global,
+    items: Vec<Value>,
+    texts: &mut Texts,
+) -> Result<Option<Jsons>, Memory>
     ensures { IfOk result (λ o. o ≡ of_items (items_view items.items)) }
 {
     let mut all = Jsons::new(alloc);
     for item in items {
-        match convert(alloc, item)? {
+        match convert(alloc, item, texts)? {
             Some(tree) => all.add(tree)?,
             None => return Ok(None),
         }
@@ -72,13 +78,17 @@ fn convert_items(alloc: Global, items: Vec<Value>) -> Result<Option<Jsons>, Memo
 
 // The same of each member.
 #[cycle(convert)]
-fn convert_members(alloc: Global, members: Map<String, Value>) -> Result<Option<Members>, Memory>
+fn convert_members(
+    alloc: Global,
+    members: Map<String, Value>,
+    texts: &mut Texts,
+) -> Result<Option<Members>, Memory>
     ensures { IfOk result (λ o. o ≡ of_members (members_view members.entries)) }
 {
     let mut all = Members::new(alloc);
     for (key, member) in members {
-        let name = Chars::of(alloc, key.as_str())?;
-        match convert(alloc, member)? {
+        let name = texts.hold(key)?;
+        match convert(alloc, member, texts)? {
             Some(tree) => all.add(name, tree)?,
             None => return Ok(None),
         }

@@ -1,6 +1,6 @@
 use Rattle.std.proofs.Common.{◌∙◌, sym, None, Some}
 use Rattle.qc_containers.proofs.Appending.{slice_push, slice_starts}
-use Rattle.qc_data.proofs.Decoded.{none_decoded, many_plain, one_plain, two_plain, two_brand, brand_is}
+use Rattle.qc_data.proofs.Decoded.{none_decoded, many_plain, one_plain, two_plain, two_brand, brand_is, some_if}
 use Rattle.qc_data.specs.Decoding.{dec}
 use Rattle.std.proofs.Common.{refl, get_or}
 use Rattle.qc_data.specs.declared.data.Datum.TheVariants.{Brand}
@@ -19,7 +19,7 @@ decode_fields-add-requires t c =
     record {
       rising = slice_push c.loop-pair.all c.as_slice-pair-items.result.now c.loop-pair.pair-index
           c.pair-item.result _ _ c.loop-pair-test.true c.pair-item.is
-          (c.in-Ok.ensures.ok.0 ∙ c.as_str.ensures) c.loop-pair.invariant.rising;
+          (some_if _ _ _ c.in-Some.ensures ∙ c.in_ok-copy.ensures) c.loop-pair.invariant.rising;
     }
 
 pub decode_object-returns : goal.decode_object-returns

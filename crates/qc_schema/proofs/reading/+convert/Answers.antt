@@ -16,16 +16,16 @@ convert_members-add-requires t c =
     let e : Entry = (c.in-Some.key, c.in-Some.member) in
     record {
       rising = may_push c.loop-key.all c.loop-key.key-iterator c.next.new.self e _ _ c.in-Some.ensures.steps
-          (c.in_ok-name.ensures ∙ c.as_str.ensures.value) c.loop-key.invariant.rising;
+          c.in_ok-name.ensures c.loop-key.invariant.rising;
     }
 
 pub convert_members-loop-key-preserved : goal.convert_members-loop-key-preserved
 convert_members-loop-key-preserved t c =
     let e : Entry = (c.in-Some.key, c.in-Some.member) in
-    let named = c.in_ok-name.ensures ∙ c.as_str.ensures.value in
     record {
-      rising = still_rising c.loop-key.all _ c.loop-key.key-iterator c.next.new.self e _ _ c.in-Some.ensures.steps named
-          c.in_ok-add-in-Some-2.ensures.ok c.loop-key.invariant.rising;
-      done = members_more c.loop-key.all _ c.loop-key.key-iterator c.next.new.self e _ _ _ c.in-Some.ensures.steps named
-          c.loop-key.invariant.done (sym c.in-Some-2.is ∙ c.in_ok-tree.ensures) c.in_ok-add-in-Some-2.ensures.ok;
+      rising = still_rising c.loop-key.all _ c.loop-key.key-iterator c.next.new.self e _ _ c.in-Some.ensures.steps
+          c.in_ok-name.ensures c.in_ok-add-in-Some-2.ensures.ok c.loop-key.invariant.rising;
+      done = members_more c.loop-key.all _ c.loop-key.key-iterator c.next.new.self e _ _ _ c.in-Some.ensures.steps
+          c.in_ok-name.ensures c.loop-key.invariant.done (sym c.in-Some-2.is ∙ c.in_ok-tree.ensures)
+          c.in_ok-add-in-Some-2.ensures.ok;
     }
