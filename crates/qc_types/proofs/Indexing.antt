@@ -1,7 +1,7 @@
 -- An index as it is made, one class after another.
-use Rattle.std.proofs.Common.{◌≡◌, ℕ, zero, suc, ◌+◌, ◌-◌, ◌<◌, ◌≤◌, List, [], ◌∷◌, ◌++◌, length, drop, map, reverse}
-use Rattle.std.proofs.Common.{slice_get, Option, Some, None, Bool, true, false, ◌&&◌, cond, IsTrue, inl, inr, refl, sym}
-use Rattle.std.proofs.Common.{ap, ◌∙◌, subst, arith}
+use Rattle.std.proofs.Common.{◌≡◌, ℕ, zero, suc, ◌-◌, ◌<◌, List, [], ◌∷◌, ◌++◌, length, map, reverse, slice_get, Option}
+use Rattle.std.proofs.Common.{Some, None, Bool, true, false, ◌&&◌, cond, IsTrue, inl, inr, refl, sym, ap, ◌∙◌, subst}
+use Rattle.std.proofs.Common.{arith}
 use Rattle.std.specs.Prelude.{is_some, is_err, not, option_map, Result, Ok, Err, OnOk}
 use Rattle.std.specs.Str.{bytes_eq}
 use Rattle.std.proofs.Math.Bool.{and-false}
@@ -11,12 +11,12 @@ use Rattle.qc_containers.specs.Pairs.{lookup, put}
 use Rattle.qc_types.specs.declared.index.Entry.{Entry}
 use Rattle.qc_types.specs.declared.index.Place.{Place}
 use Rattle.qc_types.specs.declared.ty.ClassDef.{ClassDef}
-use Rattle.qc_types.specs.Classes.{Defs, class_of, listed}
+use Rattle.qc_types.specs.Classes.{Defs, listed}
 use Rattle.qc_types.specs.Schemas.{extends, good_class, good_classes, good_part, lists, user}
-use Rattle.qc_types.specs.inner.Places.{EntryAt, IsEntry, IsIndex, IsJump, New, defs_of, earlier, parent_place, place_of}
-use Rattle.qc_types.specs.inner.Places.{places_of}
+use Rattle.qc_types.specs.inner.Places.{EntryAt, IsEntry, IsIndex, IsJump, New, defs_of, earlier, parent_place}
+use Rattle.qc_types.specs.inner.Places.{place_of, places_of}
 use Rattle.qc_types.proofs.Jumps.{entry_last, entry_later}
-use Rattle.qc_types.proofs.Places.{before_all, listed_is, there, unlisted, up_to}
+use Rattle.qc_types.proofs.Places.{listed_is, there, unlisted, up_to}
 use Rattle.qc_types.proofs.PutLaws.{lookup-put}
 
 -- ---- names and places

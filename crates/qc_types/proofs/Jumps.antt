@@ -1,12 +1,12 @@
 -- Jumps from place to place upward.
-use Rattle.std.proofs.Common.{◌≡◌, ◌≢◌, ℕ, zero, suc, ◌+◌, ◌<◌, ◌≤◌, List, [], ◌∷◌, length, reverse, slice_get}
-use Rattle.std.proofs.Common.{Option, Some, None, Bool, true, false, refl, sym, ap, ◌∙◌, subst, arith}
+use Rattle.std.proofs.Common.{◌≡◌, ◌≢◌, ℕ, zero, suc, ◌+◌, ◌<◌, ◌≤◌, ◌∷◌, length, Option, Some, None, Bool, true, false}
+use Rattle.std.proofs.Common.{refl, sym, ap, ◌∙◌, subst, arith}
 use Rattle.qc_types.specs.declared.index.Entry.{Entry}
 use Rattle.qc_types.specs.declared.index.Jump.{Jump}
 use Rattle.qc_types.specs.declared.ty.ClassDef.{ClassDef}
 use Rattle.qc_types.specs.Classes.{Defs}
-use Rattle.qc_types.specs.inner.Places.{EntryAt, IsEntry, IsJump, New, Within, earlier, first_in, on_path, parent_at}
-use Rattle.qc_types.specs.inner.Places.{parent_of, parent_place, path, up}
+use Rattle.qc_types.specs.inner.Places.{EntryAt, IsEntry, IsJump, New, Within, first_in, on_path, parent_at, parent_of}
+use Rattle.qc_types.specs.inner.Places.{parent_place, path, up}
 use Rattle.qc_types.proofs.Paths.{first_up, on_here, on_trans, on_up}
 use Rattle.qc_types.proofs.Places.{before_all, before_later, last_at, later_at, less_up, parent_before, parent_is}
 use Rattle.qc_types.proofs.Places.{place_in_parent, same_some, within_less}

@@ -1,16 +1,16 @@
 -- Walks from place to place upward.
-use Rattle.std.proofs.Common.{◌≡◌, ◌≢◌, inl, inr, ℕ, zero, suc, ◌+◌, ◌-◌, ◌<◌, ◌≤◌, List, [], ◌∷◌, length, drop}
-use Rattle.std.proofs.Common.{reverse, slice_get, Option, Some, None, Bool, true, false, ◌&&◌, ◌||◌, cond, IsTrue, refl}
-use Rattle.std.proofs.Common.{sym, ap, ◌∙◌, subst, arith}
-use Rattle.std.specs.Prelude.{is_some, nat_eq, option_map}
+use Rattle.std.proofs.Common.{◌≡◌, ◌≢◌, inl, inr, ℕ, zero, suc, ◌-◌, ◌<◌, ◌≤◌, List, [], ◌∷◌, length, drop, reverse}
+use Rattle.std.proofs.Common.{slice_get, Option, Some, None, Bool, true, false, ◌||◌, cond, IsTrue, refl, sym, ap, ◌∙◌}
+use Rattle.std.proofs.Common.{subst, arith}
+use Rattle.std.specs.Prelude.{nat_eq, option_map}
 use Rattle.std.specs.Str.{bytes_eq}
 use Rattle.std.proofs.lemmas.Bool.Decides.{eqb_tells}
 use Rattle.std.proofs.lemmas.Option.{slice_get_cases}
 use Rattle.std.proofs.lemmas.Slice.Eq.{bytes_eq-Decides}
 use Rattle.qc_types.specs.declared.ty.ClassDef.{ClassDef}
 use Rattle.qc_types.specs.Classes.{Defs, below, chain, class_of, common, first_above, is_in, listed}
-use Rattle.qc_types.specs.inner.Places.{New, earlier, first_in, is_some_in, name_at, on_path, own_chain, parent_at, path}
-use Rattle.qc_types.specs.inner.Places.{place_of}
+use Rattle.qc_types.specs.inner.Places.{New, earlier, first_in, is_some_in, name_at, on_path, own_chain, parent_at}
+use Rattle.qc_types.specs.inner.Places.{path, place_of}
 use Rattle.qc_types.proofs.ClassLaws.{above_listed, along_new, other}
 use Rattle.qc_types.proofs.Places.{chain_is, found_class, length_earlier, listed_at, listed_is, own_name, path_next}
 use Rattle.qc_types.proofs.Places.{place_there, place_within, read_at, same_some, there, unlisted}

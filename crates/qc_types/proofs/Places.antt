@@ -1,18 +1,16 @@
 -- Classes by their places in the order listed.
-use Rattle.std.proofs.Common.{◌≡◌, ◌≢◌, ◌⊎◌, inl, inr, ℕ, zero, suc, ◌+◌, ◌-◌, ◌<◌, ◌≤◌, List, [], ◌∷◌, ◌++◌, length}
-use Rattle.std.proofs.Common.{drop, map, reverse, slice_get, get_or, Option, Some, None, Bool, true, false, ◌&&◌, ◌||◌}
-use Rattle.std.proofs.Common.{cond, IsTrue, refl, sym, ap, ◌∙◌, subst, arith, drop-cons}
-use Rattle.std.specs.Prelude.{is_some, option_map}
+use Rattle.std.proofs.Common.{◌≡◌, ◌⊎◌, inl, inr, ℕ, zero, suc, ◌+◌, ◌-◌, ◌<◌, ◌≤◌, List, [], ◌∷◌, length, drop}
+use Rattle.std.proofs.Common.{reverse, slice_get, get_or, Option, Some, None, Bool, true, false, cond, IsTrue, refl}
+use Rattle.std.proofs.Common.{sym, ap, ◌∙◌, subst, arith, drop-cons}
+use Rattle.std.specs.Prelude.{is_some}
 use Rattle.std.specs.Str.{bytes_eq}
 use Rattle.std.proofs.lemmas.List.{get_or-reverse, length-reverse, length-drop}
-use Rattle.std.proofs.lemmas.Option.{slice_get_within, slice_get-get_or, slice_get_cases, slice_get-map}
-use Rattle.std.proofs.lemmas.Option.{get_or_from_slice_get}
+use Rattle.std.proofs.lemmas.Option.{slice_get_within, slice_get-get_or, slice_get_cases, get_or_from_slice_get}
 use Rattle.std.proofs.lemmas.Slice.Eq.{bytes_eq-Decides}
 use Rattle.qc_types.specs.declared.ty.ClassDef.{ClassDef}
-use Rattle.qc_types.specs.Classes.{Defs, below, chain, class_of, is_in, listed, parents}
+use Rattle.qc_types.specs.Classes.{Defs, chain, class_of, listed, parents}
 use Rattle.qc_types.specs.inner.Places.{New, Within, earlier, own_chain, parent_at, parent_of, parent_place, path}
 use Rattle.qc_types.specs.inner.Places.{place_of}
-use Rattle.qc_types.proofs.ClassLaws.{above_listed, other}
 
 pub same_some : {X : Type 0} (x y : X) → ◌≡◌ {A = Option X} (Some x) (Some y) → x ≡ y
 same_some x y e = let un : Option _ → _ = λ o. elim o [ Some v ↦ v | None ↦ x ] in ap un e

@@ -12,7 +12,7 @@ use qc_containers::{Memory, Name, NameMap, Share, SharedList};
 use std::alloc::Global;
 use std::marker::Model;
 
-// A class beside its parent's place and a jump from there.
+// A class beside its parent's place and its jump.
 #[derive(Drop)]
 pub(crate) struct Entry {
     def: ClassDef,
@@ -20,7 +20,7 @@ pub(crate) struct Entry {
     jump: Option<Jump>,
 }
 
-// Over how many classes a jump goes upward, and to which place.
+// A way upward from a class: over how many others it goes, and to which place.
 #[derive(Clone, Copy)]
 pub(crate) struct Jump {
     over: usize,
@@ -91,7 +91,7 @@ impl ClassIndex {
             return Err(ClassFault::BadClasses);
         }
         let parent = self.place_over(&def);
-        let jump = self.jump_from(parent);
+        let jump = self.jump_over(parent);
         let name = def.name.copy(alloc)?;
         let at = self.entries.len();
         let mut entries = self.entries;
@@ -171,7 +171,7 @@ impl ClassIndex {
         }
     }
 
-    // The jump from the parent's place of the class at a place.
+    // The jump of the class at a place.
     fn jump(&self, at: usize) -> Option<Jump>
         ensures { IsJump self.now (parent_at self.now at) result }
     {
@@ -181,27 +181,24 @@ impl ClassIndex {
         }
     }
 
-    // The class at a place beside its parent's place and a jump from there.
+    // The class at a place beside its parent's place and its jump.
     fn entry(&self, at: usize) -> Option<&Entry>
         ensures { EntryAt self.now at (option_copied result) }
     {
         self.entries.get(at)
     }
 
-    // A jump from the parent's place of a class that is listed next. Jumps of the next after a class go over 0, 2, 6,
-    // 14 .. classes, each twice as far where it can, so that any ancestor is a few jumps and parents away.
-    fn jump_from(&self, parent: Option<usize>) -> Option<Jump>
+    // The jump of a class that is listed next, by its parent's place: as far as the parent's jump and the jump after it
+    // where both go over as many classes, and else to the parent. So jumps go over 0, 2, 6, 14 .. classes, and the way
+    // to any ancestor has at most a few times as many steps as the number of classes between has bits.
+    fn jump_over(&self, parent: Option<usize>) -> Option<Jump>
         ensures { IsJump self.now parent result }
     {
         let to = parent?;
-        match self.two_jumps(to) {
-            Some(jump) => Some(jump),
-            None => Some(Jump { over: 0, to }),
-        }
+        self.two_jumps(to).or(Some(Jump { over: 0, to }))
     }
 
-    // The jumps of the class at a place and of the class that it goes to, as one jump from that place, where both go
-    // over as many classes.
+    // The jump of the class at a place and the jump after it as one jump of a child, if both go over as many classes.
     fn two_jumps(&self, at: usize) -> Option<Jump>
         ensures { IsJump self.now (Some at) result }
     {
@@ -229,7 +226,7 @@ impl ClassIndex {
         }
     }
 
-    // The class at `above` is the one at the place or an ancestor of it.
+    // Whether the class at `above` is the one at the place or an ancestor of it.
     fn is_on_path(&self, place: usize, above: usize) -> bool
         requires place { place < length self.now }
         requires names { New self.now }
@@ -237,7 +234,7 @@ impl ClassIndex {
     {
         let mut at = place;
         while at > above {
-            match self.toward(at, above) {
+            match self.climb_toward(at, above) {
                 Some(next) => at = next,
                 None => return false,
             }
@@ -245,9 +242,9 @@ impl ClassIndex {
         at == above
     }
 
-    // A place upward from the one after `above`, that of its jump or else of its parent, with no class between that
-    // stands at `above`. Places fall on the way up, so only a jump to a place before `above` could miss it.
-    fn toward(&self, at: usize, above: usize) -> Option<usize>
+    // A place upward from one after `above`, with no class between that stands at `above`: its jump's if that is not
+    // before `above`, since places fall on the way up, and else its parent's.
+    fn climb_toward(&self, at: usize, above: usize) -> Option<usize>
         requires at { at < length self.now }
         requires above { above < at }
         requires names { New self.now }
@@ -281,15 +278,14 @@ impl ClassIndex {
     {
         let mut at = a;
         while !self.is_on_path(b, at) {
-            at = self.beside(at, b)?;
+            at = self.climb_apart(at, b)?;
         }
         Some(at)
     }
 
-    // A place upward from the one of a class that is not on the path from `b`, that of its jump or else of its parent,
-    // with no class between that is on that path. All above a class of the path are on it, so only a jump to one that
-    // is could pass the first.
-    fn beside(&self, at: usize, b: usize) -> Option<usize>
+    // A place upward from one that is not on the path from `b`, with no class between that is on it: its jump's if that
+    // is not on it either, since all above a class of the path are on it, and else its parent's.
+    fn climb_apart(&self, at: usize, b: usize) -> Option<usize>
         requires at { at < length self.now }
         requires b { b < length self.now }
         requires names { New self.now }

@@ -36,18 +36,18 @@ parent_of ds (Some d) = parent_place ds d.parent
 abbrev pub parent_at : Defs → ℕ → Option ℕ
 parent_at c n = parent_of (earlier c n) (slice_get (reverse c) n)
 
--- a place, if there is one, is before another
+-- the place, if there is one, is before place k
 abbrev pub Within : ℕ → Option ℕ → Type 0
 Within k None = Unit {0}
 Within k (Some n) = n < k
 
--- the place so many parents upward from a place
+-- the place so many parents upward from a place, if there is one
 abbrev pub up : Defs → ℕ → Option ℕ → Option ℕ
 up c zero o = o
 up c (suc k) None = None
 up c (suc k) (Some n) = up c k (parent_at c n)
 
--- a jump, if there is one, goes from a place to the one as many parents upward as it says
+-- the jump, if there is one, of a class whose parent has the place o: over so many classes, the parent first
 abbrev pub IsJump : Defs → Option ℕ → Option Jump → Type 0
 IsJump c o None = Unit {0}
 IsJump c o (Some j) = up c j.over o ≡ Some j.to
@@ -91,13 +91,13 @@ abbrev pub New : Defs → Type 0
 New [] = Unit {0}
 New (d ∷ ds) = (listed ds d.name ≡ false) × New ds
 
--- the class at a place, beside its parent's place and a jump from there
+-- an entry that has the class at a place, its parent's place and a jump of it
 pub record IsEntry (c : Defs) (n : ℕ) (e : Entry) : Type 0 where
   pub def_is : slice_get (reverse c) n ≡ Some e.def
   pub parent_is : e.parent ≡ parent_at c n
   pub jump_is : IsJump c (parent_at c n) e.jump
 
--- an entry, exactly where there is a class at the place
+-- the entry of a place, exactly where there is a class
 abbrev pub EntryAt : Defs → ℕ → Option Entry → Type 0
 EntryAt c n None = slice_get (reverse c) n ≡ None
 EntryAt c n (Some e) = IsEntry c n e

@@ -6,15 +6,23 @@ pub overflow_add-result : goal.overflow_add-result
 overflow_add-result c =
     let f = c.in_ok-first.first in
     let s = c.in_ok-second.second in
-    omega (arith, c.ranges.at.fits, two_fall c.args.self.now f.over s.over c.args.at f.to s.to c.in_ok-first.ensures
-    c.in_ok-second.ensures)
+    omega (
+      arith,
+      c.ranges.at.fits,
+      two_fall c.args.self.now f.over s.over c.args.at f.to s.to c.in_ok-first.ensures
+          c.in_ok-second.ensures,
+    )
 
 pub overflow_add-result-2 : goal.overflow_add-result-2
 overflow_add-result-2 c =
     let f = c.in_ok-first.first in
     let s = c.in_ok-second.second in
-    omega (arith, c.ranges.at.fits, two_fall c.args.self.now f.over s.over c.args.at f.to s.to c.in_ok-first.ensures
-    c.in_ok-second.ensures)
+    omega (
+      arith,
+      c.ranges.at.fits,
+      two_fall c.args.self.now f.over s.over c.args.at f.to s.to c.in_ok-first.ensures
+          c.in_ok-second.ensures,
+    )
 
 pub returns : goal.returns
 returns c =

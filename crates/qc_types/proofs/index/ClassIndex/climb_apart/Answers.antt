@@ -3,7 +3,7 @@ use Rattle.qc_types.specs.inner.Places.{Within, first_in, path}
 use Rattle.qc_types.proofs.Jumps.{first_passed, up_falls}
 use Rattle.qc_types.proofs.Paths.{first_up}
 use Rattle.qc_types.proofs.Places.{parent_before}
-use Rattle.qc_types.proofs.index.ClassIndex.beside.Goals as goal
+use Rattle.qc_types.proofs.index.ClassIndex.climb_apart.Goals as goal
 
 pub returns-in-Some-clause-before : goal.returns-in-Some-clause-before
 returns-in-Some-clause-before c =

@@ -3,7 +3,7 @@ use Rattle.qc_types.specs.inner.Places.{Within, on_path}
 use Rattle.qc_types.proofs.Jumps.{passed, up_falls}
 use Rattle.qc_types.proofs.Paths.{on_up}
 use Rattle.qc_types.proofs.Places.{parent_before}
-use Rattle.qc_types.proofs.index.ClassIndex.toward.Goals as goal
+use Rattle.qc_types.proofs.index.ClassIndex.climb_toward.Goals as goal
 
 pub returns-in-Some-clause-before : goal.returns-in-Some-clause-before
 returns-in-Some-clause-before c =
