@@ -128,7 +128,7 @@ module _ (d : ClassDef) (ds : Defs) (new : listed ds d.name ≡ false) where
       let i = subst P (chain-later d ds a e) h in
       subst Q (sym (chain-later d ds a e)) (ih a b x i (later_chain x b (above_listed ds a b i) j))
 
-along_new : (ds : Defs) → New ds → Along ds
+pub along_new : (ds : Defs) → New ds → Along ds
 along_new [] n a b x h j = absurd (cc)
 along_new (d ∷ ds) n a b x h j = along_at d ds n.0 (along_new ds n.1) a b x (bytes_eq d.name a) refl h j
 

@@ -1,22 +1,22 @@
 -- An index as it is made, one class after another.
-use Rattle.std.proofs.Common.{◌≡◌, ℕ, zero, suc, ◌+◌, ◌-◌, ◌<◌, ◌≤◌, List, [], ◌∷◌, ◌++◌, length, drop, map, reverse}
-use Rattle.std.proofs.Common.{slice_get, Option, Some, None, Bool, true, false, ◌&&◌, cond, IsTrue, refl, sym, ap, ◌∙◌}
-use Rattle.std.proofs.Common.{subst, arith}
+use Rattle.std.proofs.Common.{◌≡◌, ℕ, zero, suc, ◌-◌, ◌<◌, List, [], ◌∷◌, ◌++◌, length, map, reverse, slice_get, Option}
+use Rattle.std.proofs.Common.{Some, None, Bool, true, false, ◌&&◌, cond, IsTrue, inl, inr, refl, sym, ap, ◌∙◌, subst}
+use Rattle.std.proofs.Common.{arith}
 use Rattle.std.specs.Prelude.{is_some, is_err, not, option_map, Result, Ok, Err, OnOk}
 use Rattle.std.specs.Str.{bytes_eq}
 use Rattle.std.proofs.Math.Bool.{and-false}
-use Rattle.std.proofs.lemmas.List.{append_assoc, drop_all, length-map, length-reverse, map-append, reverse-append}
-use Rattle.std.proofs.lemmas.List.{reverse-reverse}
-use Rattle.std.proofs.lemmas.Option.{slice_get-map}
+use Rattle.std.proofs.lemmas.List.{append_assoc, length-append, length-map, length-reverse, map-append, reverse-append}
+use Rattle.std.proofs.lemmas.Option.{slice_get_cases, slice_get_past}
 use Rattle.qc_containers.specs.Pairs.{lookup, put}
 use Rattle.qc_types.specs.declared.index.Entry.{Entry}
 use Rattle.qc_types.specs.declared.index.Place.{Place}
 use Rattle.qc_types.specs.declared.ty.ClassDef.{ClassDef}
-use Rattle.qc_types.specs.Classes.{Defs, class_of, listed}
+use Rattle.qc_types.specs.Classes.{Defs, listed}
 use Rattle.qc_types.specs.Schemas.{extends, good_class, good_classes, good_part, lists, user}
-use Rattle.qc_types.specs.inner.Places.{IsIndex, New, defs_of, earlier, entries_of, parent_at, parent_in, parent_place}
+use Rattle.qc_types.specs.inner.Places.{EntryAt, IsEntry, IsIndex, IsJump, New, defs_of, earlier, parent_place}
 use Rattle.qc_types.specs.inner.Places.{place_of, places_of}
-use Rattle.qc_types.proofs.Places.{before_all, listed_is, there, unlisted, up_to}
+use Rattle.qc_types.proofs.Jumps.{entry_last, entry_later}
+use Rattle.qc_types.proofs.Places.{listed_is, there, unlisted, up_to}
 use Rattle.qc_types.proofs.PutLaws.{lookup-put}
 
 -- ---- names and places
@@ -70,27 +70,8 @@ is_absent es ps i n e = ap (lookup n) i.places_are ∙ lookup-places (defs_of es
 
 -- ---- entries and their classes
 
-rev_cons : {X : Type 0} (x : X) (xs : List X) → reverse (x ∷ xs) ≡ reverse xs ++ x ∷ []
-rev_cons x xs = reverse-append (x ∷ []) xs
-
-map-reverse : {X Y : Type 0} (f : X → Y) (xs : List X) → map f (reverse xs) ≡ reverse (map f xs)
-map-reverse f [] = refl
-map-reverse f (x ∷ xs) =
-    ap (map f) (rev_cons x xs) ∙ map-append f (reverse xs) (x ∷ []) ∙ ap (λ l. l ++ f x ∷ []) (map-reverse f xs)
-    ∙ sym (rev_cons (f x) (map f xs))
-
 abbrev pub class_in : Entry → ClassDef
 class_in e = e.def
-
-entries_defs : (c : Defs) → map class_in (entries_of c) ≡ c
-entries_defs [] = refl
-entries_defs (d ∷ ds) = ap (λ l. d ∷ l) (entries_defs ds)
-
--- the class at a place
-pub class_at : (c : Defs) (n : ℕ) → option_map class_in (slice_get (reverse (entries_of c)) n) ≡ slice_get (reverse c) n
-class_at c n =
-    sym (slice_get-map class_in (reverse (entries_of c)) n)
-    ∙ ap (λ l. slice_get l n) (map-reverse class_in (entries_of c) ∙ ap reverse (entries_defs c))
 
 pub length_defs : (es : List Entry) → length (defs_of es) ≡ length es
 length_defs es = length-reverse (map class_in es) ∙ length-map es class_in
@@ -100,18 +81,45 @@ defs_of_end es e = ap reverse (map-append class_in es (e ∷ [])) ∙ reverse-ap
 
 -- ---- one class more
 
+end_later : {X : Type 0} (xs : List X) (x : X) (n : ℕ) → n < length xs → slice_get (xs ++ x ∷ []) n ≡ slice_get xs n
+end_later [] x n lt = absurd (omega (arith, lt))
+end_later (y ∷ ys) x zero lt = refl
+end_later (y ∷ ys) x (suc n) lt = end_later ys x n (omega (arith, lt))
+
+end_at : {X : Type 0} (xs : List X) (x : X) → slice_get (xs ++ x ∷ []) (length xs) ≡ Some x
+end_at [] x = refl
+end_at (y ∷ ys) x = end_at ys x
+
 module _ (es : List Entry) (ps : List (List ℕ × Place)) (i : IsIndex es ps) (d : ClassDef) (e : Entry) (xs : List Entry)
-    (ys : List (List ℕ × Place))
-    (own : e ≡ record { def = d; parent = parent_place (defs_of es) d.parent }) (more : xs ≡ es ++ e ∷ [])
+    (ys : List (List ℕ × Place)) (is : e.def ≡ d) (over : e.parent ≡ parent_place (defs_of es) d.parent)
+    (jump : IsJump (defs_of es) e.parent e.jump) (more : xs ≡ es ++ e ∷ [])
     (put_in : ys ≡ put d.name (to_place (length es)) ps) where
   pub more_defs : defs_of xs ≡ d ∷ defs_of es
-  more_defs = ap defs_of more ∙ defs_of_end es e ∙ ap (λ k. class_in k ∷ defs_of es) own
+  more_defs = ap defs_of more ∙ defs_of_end es e ∙ ap (λ k. k ∷ defs_of es) is
+
+  more_entries : (n : ℕ) → EntryAt (d ∷ defs_of es) n (slice_get (es ++ e ∷ []) n)
+  more_entries n = elim (slice_get_cases es n).1 [
+    | inl u ↦
+        subst (EntryAt (d ∷ defs_of es) n) (sym (end_later es e n u.1))
+        (entry_later d (defs_of es) n (omega (arith, u.1, length_defs es)) (slice_get es n) (i.entries_are n))
+    | inr u ↦ elim (slice_get_cases (es ++ e ∷ []) n).1 [
+      | inl v ↦
+          let at : length es ≡ n = omega (arith, u.0, v.1, length-append es (e ∷ [])) in
+          subst (λ k. EntryAt (d ∷ defs_of es) k (slice_get (es ++ e ∷ []) k)) at
+          (subst (EntryAt (d ∷ defs_of es) (length es)) (sym (end_at es e))
+          (subst (λ k. IsEntry (d ∷ defs_of es) k e) (length_defs es) (entry_last d (defs_of es) e is over jump)))
+      | inr v ↦
+          subst (EntryAt (d ∷ defs_of es) n) (sym v.1)
+          (slice_get_past (reverse (d ∷ defs_of es)) n
+          (omega (arith, v.0, length-append es (e ∷ []), length_defs es, length-reverse (d ∷ defs_of es))))
+    ]
+  ]
 
   pub more_index : place_of (defs_of es) d.name ≡ None → IsIndex xs ys
   more_index new = let c = defs_of es in record {
-    entries_are =
-        more ∙ (λ k. i.entries_are k ++ own k ∷ []) ∙ sym (rev_cons _ (entries_of c))
-        ∙ ap (λ l. reverse (entries_of l)) (sym more_defs);
+    entries_are = subst (λ l. (n : ℕ) → EntryAt (defs_of l) n (slice_get l n)) (sym more)
+        (subst (λ k. (n : ℕ) → EntryAt k n (slice_get (es ++ e ∷ []) n))
+        (sym more_defs ∙ ap defs_of more) more_entries);
     places_are =
         put_in ∙ (λ k. put d.name (to_place (sym (length_defs es) k)) (i.places_are k)) ∙ ap places_of (sym more_defs);
     names = subst New (sym more_defs) (unlisted c d.name new, i.names);

@@ -12,6 +12,7 @@ mod ListLaws
 pub mod PutLaws
 mod Places
 mod Paths
+mod Jumps
 mod Indexing
 pub mod ClassLaws
 pub mod WorldLaws

@@ -1,17 +1,19 @@
 -- Walks from place to place upward.
-use Rattle.std.proofs.Common.{◌≡◌, ◌≢◌, inl, inr, ℕ, zero, suc, ◌+◌, ◌-◌, ◌<◌, ◌≤◌, List, [], ◌∷◌, length, drop}
-use Rattle.std.proofs.Common.{reverse, slice_get, Option, Some, None, Bool, true, false, ◌&&◌, ◌||◌, cond, IsTrue, refl}
-use Rattle.std.proofs.Common.{sym, ap, ◌∙◌, subst, arith}
-use Rattle.std.specs.Prelude.{is_some, option_map}
+use Rattle.std.proofs.Common.{◌≡◌, ◌≢◌, inl, inr, ℕ, zero, suc, ◌-◌, ◌<◌, ◌≤◌, List, [], ◌∷◌, length, drop, reverse}
+use Rattle.std.proofs.Common.{slice_get, Option, Some, None, Bool, true, false, ◌||◌, cond, IsTrue, refl, sym, ap, ◌∙◌}
+use Rattle.std.proofs.Common.{subst, arith}
+use Rattle.std.specs.Prelude.{nat_eq, option_map}
 use Rattle.std.specs.Str.{bytes_eq}
+use Rattle.std.proofs.lemmas.Bool.Decides.{eqb_tells}
+use Rattle.std.proofs.lemmas.Option.{slice_get_cases}
 use Rattle.std.proofs.lemmas.Slice.Eq.{bytes_eq-Decides}
 use Rattle.qc_types.specs.declared.ty.ClassDef.{ClassDef}
 use Rattle.qc_types.specs.Classes.{Defs, below, chain, class_of, common, first_above, is_in, listed}
-use Rattle.qc_types.specs.inner.Places.{New, earlier, first_in, name_at, own_chain, parent_at, path, place_of}
-use Rattle.qc_types.proofs.ClassLaws.{above_listed, other}
-use Rattle.qc_types.proofs.Places.{Within, chain_is, found_class, length_earlier, listed_at, listed_is, own_name}
-use Rattle.qc_types.proofs.Places.{parent_before, path_next, place_there, place_within, read_at, same_some, there}
-use Rattle.qc_types.proofs.Places.{unlisted}
+use Rattle.qc_types.specs.inner.Places.{New, earlier, first_in, is_some_in, name_at, on_path, own_chain, parent_at}
+use Rattle.qc_types.specs.inner.Places.{path, place_of}
+use Rattle.qc_types.proofs.ClassLaws.{above_listed, along_new, other}
+use Rattle.qc_types.proofs.Places.{chain_is, found_class, length_earlier, listed_at, listed_is, own_name, path_next}
+use Rattle.qc_types.proofs.Places.{place_there, place_within, read_at, same_some, there, unlisted}
 
 -- ---- names and places
 
@@ -36,10 +38,6 @@ place_own (x ∷ xs) w n d h = elim (read_at x xs n d h) [
       (let r : place_of (x ∷ xs) d.name ≡ place_of xs d.name = rw k refl in r) ∙ p
 ]
 
-same_here : (c : Defs) (n m : ℕ) (d : ClassDef) (b : List ℕ) → slice_get (reverse c) n ≡ Some d → place_of c b ≡ Some m
-    → n ≡ m → bytes_eq d.name b ≡ true
-same_here c n m d b at p e = named c b d (sym (found_class c b m p) ∙ ap (slice_get (reverse c)) (sym e) ∙ at)
-
 not_here : (c : Defs) → New c → (n m : ℕ) (d : ClassDef) (b : List ℕ) → slice_get (reverse c) n ≡ Some d
     → place_of c b ≡ Some m → n ≢ m → bytes_eq d.name b ≡ false
 not_here c w n m d b at p ne = test (bytes_eq d.name b) refl
@@ -50,30 +48,6 @@ not_here c w n m d b at p ne = test (bytes_eq d.name b) refl
     test false e = refl
 
 -- ---- whether one is above another
-
--- how far a way upward may be
-abbrev pub up_to : Option ℕ → ℕ
-up_to None = 0
-up_to (Some n) = suc n
-
-pub up_less : (n : ℕ) (o p : Option ℕ) → p ≡ Some n → Within n o → up_to o < up_to p
-up_less n None p e w = rw e (omega arith)
-up_less n (Some m) p e w = rw e (omega (arith, w))
-
-module _ (c : Defs) (a b : List ℕ) (whole : Bool) (n m : ℕ) (left : whole ≡ is_in b (path c (Some n)))
-    (p : place_of c b ≡ Some m) where
-  pub reached : n ≡ m → true ≡ whole
-  reached e =
-      let lt : n < length c = subst (λ k. k < length c) (sym e) (place_within c b m p) in
-      let d = there c n lt in
-      sym (left ∙ ap (is_in b) (path_next c n d.0 d.1)
-      ∙ ap (λ k. k || is_in b (path c (parent_at c n))) (same_here c n m d.0 b d.1 p e))
-
-  pub goes_up : New c → n < length c → n ≢ m → whole ≡ is_in b (path c (parent_at c n))
-  goes_up w lt ne =
-      let d = there c n lt in
-      left ∙ ap (is_in b) (path_next c n d.0 d.1)
-      ∙ ap (λ k. k || is_in b (path c (parent_at c n))) (not_here c w n m d.0 b d.1 p ne)
 
 -- nothing is below a class that is not listed
 pub never : (c : Defs) (a b : List ℕ) → place_of c b ≡ None → below c a b ≡ false
@@ -119,70 +93,111 @@ apart c w x y d at ly less = test (is_in d.name (path c (Some y))) refl
         let same : x ≡ i.0 = same_some x i.0 (sym (place_own c w x d at) ∙ i.1) in absurd (omega (arith, i.2))
     test false e = refl
 
-or_false : (p q : Bool) → (p || q) ≡ false → (p ≡ false) × (q ≡ false)
-or_false true q h = absurd (cc)
-or_false false q h = (refl, h)
-
-eq_back : (a b : List ℕ) → bytes_eq a b ≡ false → bytes_eq b a ≡ false
-eq_back a b h = test (bytes_eq b a) refl
-  where
-    test : (k : Bool) → bytes_eq b a ≡ k → k ≡ false
-    test true e =
-        let bad : false ≡ true = sym h ∙ ap (bytes_eq a) ((bytes_eq-Decides b a).0 e) ∙ own_name a in absurd (cc)
-    test false e = refl
-
--- a name that is none of the first list adds nothing
-skip : (b : List ℕ) (ms ns : List (List ℕ)) → is_in b ns ≡ false → first_in (b ∷ ms) ns ≡ first_in ms ns
-skip b ms [] h = refl
-skip b ms (n ∷ ns) h =
-    let o = or_false (bytes_eq n b) (is_in b ns) h in
-    let e : bytes_eq b n ≡ false = eq_back n b o.0 in
-    ap (λ k. cond (k || is_in n ms) (Some n) (first_in (b ∷ ms) ns)) e
-    ∙ ap (λ r. cond (is_in n ms) (Some n) r) (skip b ms ns o.1)
-
 first_none : (ns : List (List ℕ)) → first_in [] ns ≡ None
 first_none [] = refl
 first_none (n ∷ ns) = first_none ns
 
-module _ (c : Defs) (w : New c) (x y : ℕ) (lx : x < length c) (ly : y < length c) (whole : Option (List ℕ))
-    (left : whole ≡ first_in (path c (Some y)) (path c (Some x))) where
-  -- the class at the first's place is not on the second path
-  pub first_up : y < x → whole ≡ first_in (path c (Some y)) (path c (parent_at c x))
-  first_up less =
-      let d = there c x lx in
-      let ys = path c (Some y) in
-      let rest = first_in ys (path c (parent_at c x)) in
-      left ∙ ap (first_in ys) (path_next c x d.0 d.1)
-      ∙ ap (λ k. cond k (Some d.0.name) rest) (apart c w x y d.0 d.1 ly less)
+-- ---- the path from a place, class by class
 
-  pub second_up : x < y → whole ≡ first_in (path c (parent_at c y)) (path c (Some x))
-  second_up less =
-      let d = there c y ly in
-      let xs = path c (Some x) in
-      left ∙ ap (λ l. first_in l xs) (path_next c y d.0 d.1)
-      ∙ skip d.0.name (path c (parent_at c y)) xs (apart c w y x d.0 d.1 lx less)
+name_here : (c : Defs) (n : ℕ) (d : ClassDef) → slice_get (reverse c) n ≡ Some d → name_at c (Some n) ≡ Some d.name
+name_here c n d at = ap (option_map (λ (k : ClassDef). k.name)) at
 
-  pub first_ends : y < x → parent_at c x ≡ None → None ≡ whole
-  first_ends less e = sym (first_up less ∙ ap (λ o. first_in (path c (Some y)) (path c o)) e)
+pub on_is : (c : Defs) (m : ℕ) (d : ClassDef) (o : Option ℕ) → slice_get (reverse c) m ≡ Some d
+    → on_path c m o ≡ is_in d.name (path c o)
+on_is c m d o at = ap (λ n. is_some_in n (path c o)) (name_here c m d at)
 
-  pub second_ends : x < y → parent_at c y ≡ None → None ≡ whole
-  second_ends less e =
-      sym (second_up less ∙ ap (λ o. first_in (path c o) (path c (Some x))) e ∙ first_none (path c (Some x)))
+-- past the end there is no class
+on_none : (c : Defs) (m : ℕ) (o : Option ℕ) → slice_get (reverse c) m ≡ None → on_path c m o ≡ false
+on_none c m o e = ap (λ d. is_some_in (option_map (λ (k : ClassDef). k.name) d) (path c o)) e
 
-  pub met : x ≡ y → name_at c (Some x) ≡ whole
-  met e =
-      let d = there c x lx in
-      let l = path c (parent_at c x) in
-      let same : path c (Some y) ≡ d.0.name ∷ l = ap (λ k. path c (Some k)) (sym e) ∙ path_next c x d.0 d.1 in
-      let one : first_in (d.0.name ∷ l) (d.0.name ∷ l) ≡ Some d.0.name =
-      ap (λ k. cond (k || is_in d.0.name l) (Some d.0.name) (first_in (d.0.name ∷ l) l)) (own_name d.0.name) in
-      let name : name_at c (Some x) ≡ Some d.0.name = ap (option_map (λ (k : ClassDef). k.name)) d.1 in
-      name ∙ sym (left ∙ ap (λ s. first_in s (path c (Some x))) same
-      ∙ ap (first_in (d.0.name ∷ l)) (path_next c x d.0 d.1) ∙ one)
+pub on_end : (c : Defs) (m : ℕ) → on_path c m None ≡ false
+on_end c m = at (name_at c (Some m))
+  where
+    at : (o : Option (List ℕ)) → is_some_in o [] ≡ false
+    at None = refl
+    at (Some n) = refl
 
--- a parent's place is below its child's
-pub less_up : (c : Defs) (n m : ℕ) → n < length c → Some m ≡ parent_at c n → m < n
-less_up c n m lt e = subst (Within n) (sym e) (parent_before c n lt)
+-- the class of a name is on a path where the name is
+pub on_name : (c : Defs) (b : List ℕ) (m : ℕ) (o : Option ℕ) → place_of c b ≡ Some m
+    → on_path c m o ≡ is_in b (path c o)
+on_name c b m o p =
+    let d = there c m (place_within c b m p) in
+    let same : d.0.name ≡ b =
+    (bytes_eq-Decides d.0.name b).0 (named c b d.0 (sym (found_class c b m p) ∙ d.1)) in
+    on_is c m d.0 o d.1 ∙ ap (λ n. is_in n (path c o)) same
+
+pub on_here : (c : Defs) (n : ℕ) → n < length c → on_path c n (Some n) ≡ true
+on_here c n lt =
+    let d = there c n lt in
+    on_is c n d.0 (Some n) d.1 ∙ ap (is_in d.0.name) (path_next c n d.0 d.1)
+    ∙ ap (λ k. k || is_in d.0.name (path c (parent_at c n))) (own_name d.0.name)
+
+module _ (c : Defs) (w : New c) (m n : ℕ) (lt : n < length c) where
+  -- the path from another class than the one at m meets that where the path from its parent does
+  pub on_up : n ≢ m → on_path c m (Some n) ≡ on_path c m (parent_at c n)
+  on_up ne = elim (slice_get_cases (reverse c) m).1 [
+    | inl u ↦
+        let d = there c n lt in
+        let l = path c (parent_at c n) in
+        on_is c m u.0 (Some n) u.2 ∙ ap (is_in u.0.name) (path_next c n d.0 d.1)
+        ∙ ap (λ k. k || is_in u.0.name l) (not_here c w n m d.0 u.0.name d.1 (place_own c w m u.0 u.2) ne)
+        ∙ sym (on_is c m u.0 (parent_at c n) u.2)
+    | inr u ↦ on_none c m (Some n) u.1 ∙ sym (on_none c m (parent_at c n) u.1)
+  ]
+
+  -- a path has no class that stands after its first
+  pub on_later : n < m → on_path c m (Some n) ≡ false
+  on_later less = elim (slice_get_cases (reverse c) m).1 [
+    | inl u ↦ on_is c m u.0 (Some n) u.2 ∙ apart c w m n u.0 u.2 lt less
+    | inr u ↦ on_none c m (Some n) u.1
+  ]
+
+  -- the class at m is on a path from a place that is not after it where it is that place
+  pub on_found : (whole : Bool) → whole ≡ on_path c m (Some n) → n ≤ m → nat_eq n m ≡ whole
+  on_found whole left le = elim (eqb_tells n m) [
+    | inl e ↦ e.0 ∙ sym (left ∙ ap (λ k. on_path c k (Some n)) (sym e.1) ∙ on_here c n lt)
+    | inr e ↦ let less : n < m = omega (arith, le, e.1) in e.0 ∙ sym (left ∙ on_later less)
+  ]
+
+own_path : (c : Defs) → New c → (n : ℕ) (d : ClassDef) → slice_get (reverse c) n ≡ Some d
+    → chain c d.name ≡ path c (Some n)
+own_path c w n d at = chain_is c d.name ∙ ap (path c) (place_own c w n d at)
+
+-- what is above a class of a path is on that path
+pub on_trans : (c : Defs) → New c → (m n b : ℕ) → n < length c → b < length c → on_path c n (Some b) ≡ true
+    → on_path c m (Some n) ≡ true → on_path c m (Some b) ≡ true
+on_trans c w m n b ln lb h i = elim (slice_get_cases (reverse c) m).1 [
+  | inl u ↦
+      let x = there c n ln in
+      let y = there c b lb in
+      let one : IsTrue (below c y.0.name x.0.name) =
+      ap (is_in x.0.name) (own_path c w b y.0 y.1) ∙ sym (on_is c n x.0 (Some b) x.1) ∙ h in
+      let two : IsTrue (below c x.0.name u.0.name) =
+      ap (is_in u.0.name) (own_path c w n x.0 x.1) ∙ sym (on_is c m u.0 (Some n) u.2) ∙ i in
+      on_is c m u.0 (Some b) u.2 ∙ sym (ap (is_in u.0.name) (own_path c w b y.0 y.1))
+      ∙ along_new c w y.0.name x.0.name u.0.name one two
+  | inr u ↦ let bad : false ≡ true = sym (on_none c m (Some n) u.1) ∙ i in absurd (cc)
+]
+
+module _ (c : Defs) (n b : ℕ) (lt : n < length c) where
+  first_next : (k : Bool) → on_path c n (Some b) ≡ k → first_in (path c (Some b)) (path c (Some n))
+      ≡ cond k (name_at c (Some n)) (first_in (path c (Some b)) (path c (parent_at c n)))
+  first_next k h =
+      let d = there c n lt in
+      let ms = path c (Some b) in
+      let rest = first_in ms (path c (parent_at c n)) in
+      ap (first_in ms) (path_next c n d.0 d.1)
+      ∙ (λ i. cond ((sym (on_is c n d.0 (Some b) d.1) ∙ h) i) (sym (name_here c n d.0 d.1) i) rest)
+
+  -- a class that is not on the path from b is passed over
+  pub first_up : on_path c n (Some b) ≡ false → first_in (path c (Some b)) (path c (Some n))
+      ≡ first_in (path c (Some b)) (path c (parent_at c n))
+  first_up h = first_next false h
+
+  pub met : on_path c n (Some b) ≡ true → name_at c (Some n) ≡ first_in (path c (Some b)) (path c (Some n))
+  met h = sym (first_next true h)
+
+-- ---- the first name that two chains share
 
 first_is : (c : Defs) (m : List ℕ) (ns : List (List ℕ)) → first_above c m ns ≡ first_in (chain c m) ns
 first_is c m [] = refl

@@ -1,19 +1,16 @@
 -- Classes by their places in the order listed.
-use Rattle.std.proofs.Common.{◌≡◌, ◌≢◌, ◌⊎◌, inl, inr, ℕ, zero, suc, ◌+◌, ◌-◌, ◌<◌, ◌≤◌, List, [], ◌∷◌, ◌++◌, length}
-use Rattle.std.proofs.Common.{drop, map, reverse, slice_get, get_or, Option, Some, None, Bool, true, false, ◌&&◌, ◌||◌}
-use Rattle.std.proofs.Common.{cond, IsTrue, refl, sym, ap, ◌∙◌, subst, arith, drop-cons}
-use Rattle.std.specs.Prelude.{is_some, option_map}
+use Rattle.std.proofs.Common.{◌≡◌, ◌⊎◌, inl, inr, ℕ, zero, suc, ◌+◌, ◌-◌, ◌<◌, ◌≤◌, List, [], ◌∷◌, length, drop}
+use Rattle.std.proofs.Common.{reverse, slice_get, get_or, Option, Some, None, Bool, true, false, cond, IsTrue, refl}
+use Rattle.std.proofs.Common.{sym, ap, ◌∙◌, subst, arith, drop-cons}
+use Rattle.std.specs.Prelude.{is_some}
 use Rattle.std.specs.Str.{bytes_eq}
 use Rattle.std.proofs.lemmas.List.{get_or-reverse, length-reverse, length-drop}
-use Rattle.std.proofs.lemmas.Option.{slice_get_within, slice_get-get_or, slice_get_cases, slice_get-map}
-use Rattle.std.proofs.lemmas.Option.{get_or_from_slice_get}
+use Rattle.std.proofs.lemmas.Option.{slice_get_within, slice_get-get_or, slice_get_cases, get_or_from_slice_get}
 use Rattle.std.proofs.lemmas.Slice.Eq.{bytes_eq-Decides}
-use Rattle.qc_types.specs.declared.index.Entry.{Entry}
 use Rattle.qc_types.specs.declared.ty.ClassDef.{ClassDef}
-use Rattle.qc_types.specs.Classes.{Defs, below, chain, class_of, is_in, listed, parents}
-use Rattle.qc_types.specs.inner.Places.{New, earlier, entries_of, own_chain, parent_at, parent_in, parent_place, path}
+use Rattle.qc_types.specs.Classes.{Defs, chain, class_of, listed, parents}
+use Rattle.qc_types.specs.inner.Places.{New, Within, earlier, own_chain, parent_at, parent_of, parent_place, path}
 use Rattle.qc_types.specs.inner.Places.{place_of}
-use Rattle.qc_types.proofs.ClassLaws.{above_listed, other}
 
 pub same_some : {X : Type 0} (x y : X) → ◌≡◌ {A = Option X} (Some x) (Some y) → x ≡ y
 same_some x y e = let un : Option _ → _ = λ o. elim o [ Some v ↦ v | None ↦ x ] in ap un e
@@ -23,13 +20,13 @@ own_name a = (bytes_eq-Decides a a).1 refl
 
 -- ---- lists read from their ends
 
-last_at : {X : Type 0} (x : X) (xs : List X) → slice_get (reverse (x ∷ xs)) (length xs) ≡ Some x
+pub last_at : {X : Type 0} (x : X) (xs : List X) → slice_get (reverse (x ∷ xs)) (length xs) ≡ Some x
 last_at x xs =
     slice_get-get_or (reverse (x ∷ xs)) (length xs) x (omega (arith, length-reverse (x ∷ xs)))
     ∙ ap Some (get_or-reverse (x ∷ xs) (length xs) x (omega arith)
     ∙ ap (λ i. get_or (x ∷ xs) i x) (let e : suc (length xs) - 1 - length xs ≡ 0 = omega arith in e))
 
-later_at : {X : Type 0} (x : X) (xs : List X) (n : ℕ) → n < length xs
+pub later_at : {X : Type 0} (x : X) (xs : List X) (n : ℕ) → n < length xs
     → slice_get (reverse (x ∷ xs)) n ≡ slice_get (reverse xs) n
 later_at x xs n lt =
     slice_get-get_or (reverse (x ∷ xs)) n x (omega (arith, length-reverse (x ∷ xs)))
@@ -62,7 +59,7 @@ there xs n lt =
 -- ---- those listed before a place
 
 module _ (d : ClassDef) (ds : Defs) where
-  before_later : (n : ℕ) → n ≤ length ds → earlier (d ∷ ds) n ≡ earlier ds n
+  pub before_later : (n : ℕ) → n ≤ length ds → earlier (d ∷ ds) n ≡ earlier ds n
   before_later n le = ap (λ k. drop k (d ∷ ds)) (let e : suc (length ds) - n ≡ suc (length ds - n) = omega arith in e)
 
   before_end : earlier (d ∷ ds) (suc (length ds)) ≡ d ∷ ds
@@ -180,41 +177,11 @@ pub before_gone : (c : Defs) → New c → (n m : ℕ) (a : List ℕ) → place_
     → class_of (earlier c n) a ≡ None
 before_gone c w n m a h le = drop_gone (length c - n) c w a m h (omega (arith, place_within c a m h))
 
--- ---- entries
-
-length_entries : (c : Defs) → length (entries_of c) ≡ length c
-length_entries [] = refl
-length_entries (d ∷ ds) = ap suc (length_entries ds)
-
-entry_at : (c : Defs) (n : ℕ) (d : ClassDef) → slice_get (reverse c) n ≡ Some d
-    → slice_get (reverse (entries_of c)) n ≡ Some (record { def = d; parent = parent_place (earlier c n) d.parent })
-entry_at [] n d h = absurd (cc)
-entry_at (x ∷ xs) n d h =
-    let e : Entry = record { def = x; parent = parent_place xs x.parent } in
-    elim (read_at x xs n d h) [
-      | inl w ↦
-          let all : earlier (x ∷ xs) n ≡ xs =
-          before_later x xs n (omega (arith, w.0)) ∙ ap (earlier xs) w.0 ∙ before_all xs in
-          let same : ◌≡◌ {A = Option Entry} (Some e)
-          (Some (record { def = d; parent = parent_place (earlier (x ∷ xs) n) d.parent })) =
-          λ i. Some (record { def = w.1 i; parent = parent_place (sym all i) (w.1 i).parent }) in
-          ap (slice_get (reverse (entries_of (x ∷ xs)))) (w.0 ∙ sym (length_entries xs)) ∙ last_at e (entries_of xs)
-          ∙ same
-      | inr w ↦
-          later_at e (entries_of xs) n (omega (arith, w.0, length_entries xs)) ∙ entry_at xs n d w.1
-          ∙ ap (λ l. Some (record { def = d; parent = parent_place l d.parent }))
-          (sym (before_later x xs n (omega (arith, w.0))))
-    ]
+-- ---- from a place upward
 
 pub parent_is : (c : Defs) (n : ℕ) (d : ClassDef) → slice_get (reverse c) n ≡ Some d
     → parent_at c n ≡ parent_place (earlier c n) d.parent
-parent_is c n d h = ap parent_in (entry_at c n d h)
-
--- ---- from a place upward
-
-abbrev pub Within : ℕ → Option ℕ → Type 0
-Within k None = Unit {0}
-Within k (Some n) = n < k
+parent_is c n d h = ap (parent_of (earlier c n)) h
 
 pub place_in : (c : Defs) (a : List ℕ) → Within (length c) (place_of c a)
 place_in c a = at (place_of c a) refl
@@ -223,17 +190,23 @@ place_in c a = at (place_of c a) refl
     at None e = tt
     at (Some n) e = place_within c a n e
 
-place_in_parent : (c : Defs) (o : Option (List ℕ)) → Within (length c) (parent_place c o)
+pub place_in_parent : (c : Defs) (o : Option (List ℕ)) → Within (length c) (parent_place c o)
 place_in_parent c None = tt
 place_in_parent c (Some p) = place_in c p
 
 -- a parent stands before its children
-pub parent_before : (c : Defs) (n : ℕ) → n < length c → Within n (parent_at c n)
-parent_before c n lt =
-    let w = there c n lt in
-    subst (Within n) (sym (parent_is c n w.0 w.1))
-    (subst (λ k. Within k (parent_place (earlier c n) w.0.parent)) (length_earlier c n (omega arith))
-    (place_in_parent (earlier c n) w.0.parent))
+pub parent_before : (c : Defs) (n : ℕ) → Within n (parent_at c n)
+parent_before c n = elim (slice_get_cases (reverse c) n).1 [
+  | inl w ↦ let le : n ≤ length c = omega (arith, w.1, length-reverse c) in
+      subst (Within n) (sym (parent_is c n w.0 w.2))
+      (subst (λ k. Within k (parent_place (earlier c n) w.0.parent)) (length_earlier c n le)
+      (place_in_parent (earlier c n) w.0.parent))
+  | inr w ↦ subst (Within n) (sym (ap (parent_of (earlier c n)) w.1)) tt
+]
+
+-- a parent's place is before its child's
+pub less_up : (c : Defs) (n m : ℕ) → parent_at c n ≡ Some m → m < n
+less_up c n m e = subst (Within n) e (parent_before c n)
 
 pub within_less : (k m : ℕ) (o : Option ℕ) → k ≤ m → Within k o → Within m o
 within_less k m None le w = tt

@@ -3,8 +3,8 @@ ghost use Rattle.std.specs.Prelude.{◌≡◌, ◌<◌, [], ◌∷◌, Some, fal
 ghost use Rattle.std.specs.Option.{option_copied};
 ghost use Rattle.qc_types.specs.Classes.{below, class_of, common, listed};
 ghost use Rattle.qc_types.specs.Schemas.{good_classes};
-ghost use Rattle.qc_types.specs.inner.Places.{New, earlier, entries_of, parent_at, parent_place, place_of};
-ghost use Rattle.qc_types.specs.inner.Places.{first_in, name_at, path};
+ghost use Rattle.qc_types.specs.inner.Places.{EntryAt, IsJump, New, Within, earlier, first_in, name_at, on_path};
+ghost use Rattle.qc_types.specs.inner.Places.{parent_at, parent_place, path, place_of, up};
 
 use crate::faults::ClassFault;
 use crate::ty::ClassDef;
@@ -12,11 +12,19 @@ use qc_containers::{Memory, Name, NameMap, Share, SharedList};
 use std::alloc::Global;
 use std::marker::Model;
 
-// A class beside its parent's place.
+// A class beside its parent's place and its jump.
 #[derive(Drop)]
 pub(crate) struct Entry {
     def: ClassDef,
     parent: Option<usize>,
+    jump: Option<Jump>,
+}
+
+// A way upward from a class: over how many others it goes, and to which place.
+#[derive(Clone, Copy)]
+pub(crate) struct Jump {
+    over: usize,
+    to: usize,
 }
 
 // A place in the order listed.
@@ -83,6 +91,7 @@ impl ClassIndex {
             return Err(ClassFault::BadClasses);
         }
         let parent = self.place_over(&def);
+        let jump = self.jump_over(parent);
         let name = def.name.copy(alloc)?;
         let at = self.entries.len();
         let mut entries = self.entries;
@@ -90,7 +99,7 @@ impl ClassIndex {
         if places.put(name, Place { at }).is_err() {
             return Err(ClassFault::Memory);
         }
-        entries.add(Entry { def, parent })?;
+        entries.add(Entry { def, parent, jump })?;
         Ok(ClassIndex { entries, places })
     }
 
@@ -162,11 +171,46 @@ impl ClassIndex {
         }
     }
 
-    // The class at a place beside its parent's place.
+    // The jump of the class at a place.
+    fn jump(&self, at: usize) -> Option<Jump>
+        ensures { IsJump self.now (parent_at self.now at) result }
+    {
+        match self.entry(at) {
+            Some(entry) => entry.jump,
+            None => None,
+        }
+    }
+
+    // The class at a place beside its parent's place and its jump.
     fn entry(&self, at: usize) -> Option<&Entry>
-        ensures { option_copied result ≡ slice_get (reverse (entries_of self.now)) at }
+        ensures { EntryAt self.now at (option_copied result) }
     {
         self.entries.get(at)
+    }
+
+    // The jump of a class that is listed next, by its parent's place: as far as the parent's jump and the jump after it
+    // where both go over as many classes, and else to the parent. So jumps go over 0, 2, 6, 14 .. classes, and the way
+    // to any ancestor has at most a few times as many steps as the number of classes between has bits.
+    fn jump_over(&self, parent: Option<usize>) -> Option<Jump>
+        ensures { IsJump self.now parent result }
+    {
+        let to = parent?;
+        self.two_jumps(to).or(Some(Jump { over: 0, to }))
+    }
+
+    // The jump of the class at a place and the jump after it as one jump of a child, if both go over as many classes.
+    fn two_jumps(&self, at: usize) -> Option<Jump>
+        ensures { IsJump self.now (Some at) result }
+    {
+        let first = self.jump(at)?;
+        let second = self.jump(first.to)?;
+        if first.over != second.over {
+            return None;
+        }
+        Some(Jump {
+            over: first.over + second.over + 2,
+            to: second.to,
+        })
     }
 
     // Both are listed, and `a` is `b` or `b` is an ancestor of `a`.
@@ -176,14 +220,41 @@ impl ClassIndex {
         let Some(above) = self.place(b.as_str()) else {
             return false;
         };
-        let mut at = self.place(a.as_str());
-        while let Some(place) = at {
-            if place == above {
-                return true;
-            }
-            at = self.parent(place);
+        match self.place(a.as_str()) {
+            Some(place) => self.is_on_path(place, above),
+            None => false,
         }
-        false
+    }
+
+    // Whether the class at `above` is the one at the place or an ancestor of it.
+    fn is_on_path(&self, place: usize, above: usize) -> bool
+        requires place { place < length self.now }
+        requires names { New self.now }
+        ensures { result ≡ on_path self.now above (Some place) }
+    {
+        let mut at = place;
+        while at > above {
+            match self.climb_toward(at, above) {
+                Some(next) => at = next,
+                None => return false,
+            }
+        }
+        at == above
+    }
+
+    // A place upward from one after `above`, with no class between that stands at `above`: its jump's if that is not
+    // before `above`, since places fall on the way up, and else its parent's.
+    fn climb_toward(&self, at: usize, above: usize) -> Option<usize>
+        requires at { at < length self.now }
+        requires above { above < at }
+        requires names { New self.now }
+        ensures before { Within at result }
+        ensures path { on_path self.now above (Some at) ≡ on_path self.now above result }
+    {
+        match self.jump(at) {
+            Some(jump) if jump.to >= above => Some(jump.to),
+            _ => self.parent(at),
+        }
     }
 
     // The class where both are one, and else the first from `a` upward that `b` is below.
@@ -205,16 +276,28 @@ impl ClassIndex {
         requires names { New self.now }
         ensures { name_at self.now result ≡ first_in (path self.now (Some b)) (path self.now (Some a)) }
     {
-        let mut x = a;
-        let mut y = b;
-        while x != y {
-            if x > y {
-                x = self.parent(x)?;
-            } else {
-                y = self.parent(y)?;
-            }
+        let mut at = a;
+        while !self.is_on_path(b, at) {
+            at = self.climb_apart(at, b)?;
         }
-        Some(x)
+        Some(at)
+    }
+
+    // A place upward from one that is not on the path from `b`, with no class between that is on it: its jump's if that
+    // is not on it either, since all above a class of the path are on it, and else its parent's.
+    fn climb_apart(&self, at: usize, b: usize) -> Option<usize>
+        requires at { at < length self.now }
+        requires b { b < length self.now }
+        requires names { New self.now }
+        requires apart { on_path self.now at (Some b) ≡ false }
+        ensures before { Within at result }
+        ensures path { first_in (path self.now (Some b)) (path self.now (Some at))
+            ≡ first_in (path self.now (Some b)) (path self.now result) }
+    {
+        match self.jump(at) {
+            Some(jump) if !self.is_on_path(b, jump.to) => Some(jump.to),
+            _ => self.parent(at),
+        }
     }
 
     // The name of the class at a place.
@@ -242,6 +325,7 @@ impl Share for Entry {
         Ok(Entry {
             def,
             parent: self.parent,
+            jump: self.jump,
         })
     }
 }

@@ -1,6 +1,6 @@
-use Rattle.std.proofs.Common.{◌≡◌, ◌∙◌, ap, false, rules, sym, true}
+use Rattle.std.proofs.Common.{◌≡◌, ◌∙◌, ap, refl, rules, subst, sym}
 use Rattle.qc_containers.specs.Pairs.{lookup, put}
-use Rattle.qc_types.specs.inner.Places.{parent_place, place_of}
+use Rattle.qc_types.specs.inner.Places.{IsJump, parent_place, place_of}
 use Rattle.qc_types.proofs.Indexing.{done, fresh, is_absent, more_index, repeated, to_place}
 use Rattle.qc_types.proofs.index.ClassIndex.with.Goals as goal
 
@@ -28,12 +28,10 @@ invariant_of-result c =
     let new : place_of c.args.self d.name ≡ _ =
     fresh c.args.self c.as_str.result.now d.name c.place.result c.is_some.result c.place.ensures.value
     c.as_str.ensures.text c.is_some.ensures (search rules) in
-    more_index i.entries i.places c.self.invariant d _ c.add.new.self c.put.new.self
-    (λ k. record {
-      def = d;
-      parent = (c.place_over-parent.ensures
-          ∙ ap (λ x. parent_place x d.parent) (sym c.self.view_is)) k;
-    })
+    more_index i.entries i.places c.self.invariant d _ c.add.new.self c.put.new.self refl
+    (c.place_over-parent.ensures ∙ ap (λ x. parent_place x d.parent) (sym c.self.view_is))
+    (subst (λ x. IsJump x c.place_over-parent.result c.jump_over-jump.result) (sym c.self.view_is)
+    c.jump_over-jump.ensures)
     c.in_ok-add.ensures.ok
     (done _ c.put.result c.is_err.result c.put.ensures.ok c.is_err.ensures.value (search rules)
     ∙ (λ k. put (c.in_ok-name.ensures k) (to_place (c.len-at.ensures k)) i.places))
