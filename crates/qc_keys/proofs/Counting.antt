@@ -1,5 +1,5 @@
 -- What a tally has is what was counted.
-use Rattle.std.proofs.Common.{◌≡◌, ℕ, ◌+◌, Bool, true, false, cond, List, [], ◌∷◌, ◌++◌, Option, None, Some, refl, sym}
+use Rattle.std.proofs.Common.{◌≡◌, ℕ, ◌+◌, Bool, true, false, cond, List, [], ◌∷◌, ◌++◌, Option, Some, refl, sym}
 use Rattle.std.proofs.Common.{ap, ◌∙◌, add-zero}
 use Rattle.std.specs.Prelude.{count_by, unwrap_or}
 use Rattle.std.specs.Map.{lookup}
@@ -8,7 +8,6 @@ use Rattle.qc_containers.proofs.Truth.{is_Equal}
 use Rattle.qc_data.specs.Order.{cmp}
 use Rattle.qc_data.proofs.Ties.{cmp_only}
 use Rattle.qc_data.proofs.Total.{cmp_total}
-use Rattle.std.specs.List.{fold}
 use Rattle.std.proofs.lemmas.List.Sums.{fold-append}
 use Rattle.qc_data.specs.declared.data.Datum.{Datum}
 use Rattle.qc_keys.specs.Counts.{count, equal, Tallies}

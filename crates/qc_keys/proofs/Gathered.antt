@@ -1,5 +1,5 @@
 -- What is gathered at a key is what was put there.
-use Rattle.std.proofs.Common.{◌≡◌, Bool, true, false, cond, List, [], ◌∷◌, ◌++◌, append-nil, Option, None, Some, refl}
+use Rattle.std.proofs.Common.{◌≡◌, Bool, true, false, cond, List, [], ◌∷◌, ◌++◌, append-nil, Option, Some, refl}
 use Rattle.std.proofs.Common.{sym, ap, ◌∙◌}
 use Rattle.std.specs.Prelude.{unwrap_or, IfOk, OnErr, Result, Ok, Err}
 use Rattle.std.proofs.lemmas.Map.Steps.{set_value_same}

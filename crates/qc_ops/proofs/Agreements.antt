@@ -1,6 +1,6 @@
 -- Whether two records, of which the names rise, agree on the names that both have, told in one walk over both.
 use Rattle.std.proofs.Common.{◌≡◌, ℕ, ◌+◌, ◌<◌, ◌≤◌, ◌⊎◌, inl, inr, Bool, true, false, List, [], ◌∷◌, length, drop}
-use Rattle.std.proofs.Common.{get_or, Some, Ordering, Less, Equal, Greater, refl, sym, subst, ap, ◌∙◌}
+use Rattle.std.proofs.Common.{get_or, Some, Less, Equal, Greater, refl, sym, subst, ap, ◌∙◌}
 use Rattle.std.specs.Prelude.{◌&&◌}
 use Rattle.std.specs.Ordering.{ordering_reverse}
 use Rattle.std.proofs.lemmas.Cmp.{nat_list_cmp_total}

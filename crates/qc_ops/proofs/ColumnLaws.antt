@@ -1,17 +1,18 @@
 -- What the tests of columns say of the order of rows.
 use Rattle.std.proofs.Common.{◌≡◌, ℕ, Bool, true, false, List, [], ◌∷◌, ◌++◌, map, None, Some, refl, sym, ap, subst}
 use Rattle.std.proofs.Common.{◌∙◌}
-use Rattle.std.specs.Prelude.{◌||◌, ◌&&◌}
+use Rattle.std.specs.Prelude.{◌||◌, ◌&&◌, unwrap_or}
 use Rattle.std.specs.List.{list_all}
 use Rattle.qc_data.specs.Kinds.{as_coll}
 use Rattle.qc_data.specs.Order.{sort_by}
 use Rattle.qc_data.specs.Outcome.{Outcome, Value, Halts, Range, Stuck, and_then, alone, each}
 use Rattle.qc_containers.specs.Pairs.{lookup}
 use Rattle.qc_data.specs.declared.data.Datum.{Datum}
-use Rattle.qc_data.specs.declared.data.Datum.TheVariants.{Coll, Rec}
-use Rattle.qc_ops.specs.inner.Columns.{is_of, is_some_of, all_of, is_column, are_columns}
+use Rattle.qc_data.specs.declared.data.Datum.TheVariants.{Unit as Nothing, Coll, Rec, outs-Unit}
+use Rattle.qc_ops.specs.inner.Columns.{are_columns, is_of, with_values}
 use Rattle.qc_ops.specs.Operands.{as_rec, found, only_if}
-use Rattle.qc_ops.specs.Sorting.{one_kind, column, ordered, row_cmp}
+use Rattle.qc_ops.specs.Sorting.{one_kind, column, ordered, row_cmp, value_at}
+use Rattle.qc_ops.proofs.RowOrder.{columns_are}
 use Rattle.qc_ops.specs.declared.columns.Kind.{Kind}
 use Rattle.qc_ops.specs.declared.columns.Kind.TheVariants as kind
 
@@ -54,17 +55,25 @@ tested_first test false c (Value d) (Halts Stuck) h k = refl
 tested_first test b c (Halts Range) rest h k = h
 tested_first test b c (Halts Stuck) rest h k = rw h refl
 
+none_of : (k : Kind) → is_of k Nothing ≡ false
+none_of kind.Int = rw outs-Unit refl
+none_of kind.Text = rw outs-Unit refl
+none_of kind.Bool = rw outs-Unit refl
+
 tested_at : (k : Kind) (name : List ℕ) (fields : List (List ℕ × Datum))
-    → Tested (is_of k) (is_some_of k (lookup name fields)) (found (lookup name fields))
+    → Tested (is_of k) (is_of k (value_at name fields)) (found (lookup name fields))
 tested_at k name fields =
-    elim (lookup name fields) as (λ o. Tested (is_of k) (is_some_of k o) (found o)) [ None ↦ refl | Some d ↦ refl ]
+    elim (lookup name fields) as (λ o. Tested (is_of k) (is_of k (unwrap_or o Nothing)) (found o))
+    [ None ↦ none_of k | Some d ↦ refl ]
 
 tested_all : (k : Kind) (name : List ℕ) (records : Records)
-    → Tested (list_all (is_of k)) (all_of k name records) (each (λ fields. found (lookup name fields)) records)
+    → Tested (list_all (is_of k)) (list_all (is_of k) (map (value_at name) records))
+    (each (λ fields. found (lookup name fields)) records)
 tested_all k name [] = refl
 tested_all k name (fields ∷ records) =
-    tested_first (is_of k) (is_some_of k (lookup name fields)) (all_of k name records) (found (lookup name fields))
-    (each (λ fields. found (lookup name fields)) records) (tested_at k name fields) (tested_all k name records)
+    tested_first (is_of k) (is_of k (value_at name fields)) (list_all (is_of k) (map (value_at name) records))
+    (found (lookup name fields)) (each (λ fields. found (lookup name fields)) records) (tested_at k name fields)
+    (tested_all k name records)
 
 judged_if : (b : Bool) (ds : List Datum) → Judged b (only_if b (Value ds))
 judged_if true ds = (ds, refl)
@@ -77,16 +86,19 @@ judged_kinds a b c (Value ds) p q r = rw (p, q, r) (judged_if (one_kind ds) ds)
 judged_kinds a b c (Halts Range) p q r = absurd p
 judged_kinds a b c (Halts Stuck) p q r = rw (p, q, r) refl
 
-judged_column : (records : Records) (name : List ℕ) → Judged (is_column name records) (column records name)
+judged_column : (records : Records) (name : List ℕ)
+    → Judged (one_kind (map (value_at name) records)) (column records name)
 judged_column records name =
-    judged_kinds (all_of kind.Int name records) (all_of kind.Text name records) (all_of kind.Bool name records)
+    let ds : List Datum = map (value_at name) records in
+    judged_kinds (list_all (is_of kind.Int) ds) (list_all (is_of kind.Text) ds) (list_all (is_of kind.Bool) ds)
     (each (λ fields. found (lookup name fields)) records) (tested_all kind.Int name records)
     (tested_all kind.Text name records) (tested_all kind.Bool name records)
 
 judged_columns : (records : Records) (keys : List (List ℕ × Bool))
-    → Judged (are_columns keys records) (each (λ key. column records key.0) keys)
+    → Judged (are_columns 0 keys (map (with_values keys) records)) (each (λ key. column records key.0) keys)
 judged_columns records keys =
-    judged_each (λ key. is_column key.0 records) (λ key. column records key.0) (λ key. judged_column records key.0) keys
+    rw (columns_are keys records) (judged_each (λ key. one_kind (map (value_at key.0) records))
+    (λ key. column records key.0) (λ key. judged_column records key.0) keys)
 
 -- ---- the order of rows
 
@@ -99,15 +111,15 @@ module _ (keys : List (List ℕ × Bool)) (a : Datum) (items rows : List Datum) 
       → ordered keys a ≡ and_then o (λ columns. Value (Coll (map Rec (sort_by (row_cmp keys) records))))
   ordered_by o e = rw (coll, there, e) refl
 
+  judged : (b : Bool) → are_columns 0 keys (map (with_values keys) records) ≡ b
+      → Judged b (each (λ key. column records key.0) keys)
+  judged b e = subst (λ b. Judged b (each (λ key. column records key.0) keys)) e (judged_columns records keys)
+
   -- where some column is missing or of several kinds
-  pub ordered_stuck : are_columns keys records ≡ false → ordered keys a ≡ Halts Stuck
-  ordered_stuck e =
-      ordered_by (Halts Stuck) (subst (λ b. Judged b (each (λ key. column records key.0) keys)) e
-      (judged_columns records keys))
+  pub ordered_stuck : are_columns 0 keys (map (with_values keys) records) ≡ false → ordered keys a ≡ Halts Stuck
+  ordered_stuck e = ordered_by (Halts Stuck) (judged false e)
 
   -- where each is there and of one kind
-  pub ordered_value : are_columns keys records ≡ true
+  pub ordered_value : are_columns 0 keys (map (with_values keys) records) ≡ true
       → ordered keys a ≡ Value (Coll (map Rec (sort_by (row_cmp keys) records)))
-  ordered_value e =
-      let columns = subst (λ b. Judged b (each (λ key. column records key.0) keys)) e (judged_columns records keys) in
-      ordered_by (Value columns.0) columns.1
+  ordered_value e = let columns = judged true e in ordered_by (Value columns.0) columns.1

@@ -1,15 +1,28 @@
-// Columns of records.
-ghost use Rattle.std.specs.Prelude.{◌≡◌};
+// Rows beside their values at keys, and the columns of these values.
+ghost use Rattle.std.specs.List.{list_all};
 ghost use Rattle.std.specs.Option.{option_copied};
+ghost use Rattle.std.specs.Prelude.{◌≡◌, map, unwrap_or, IfOk};
 ghost use Rattle.qc_data.specs.Outcome.{each};
-ghost use Rattle.qc_ops.specs.inner.Columns.{all_of, are_columns, behind, is_column, is_of, is_some_of, GivesRefs};
+ghost use Rattle.qc_data.specs.declared.data.Datum.TheVariants.{Unit as Nothing};
+ghost use Rattle.qc_ops.specs.inner.Columns.{are_columns, behind, is_of, keyed_rows, nth, values_at, with_values};
+ghost use Rattle.qc_ops.specs.inner.Columns.{GivesRefs};
 ghost use Rattle.qc_ops.specs.Operands.{as_rec};
+ghost use Rattle.qc_ops.specs.Sorting.{one_kind};
 
 use crate::op::Keys;
 use crate::operands::fields_of;
-use qc_containers::Name;
-use qc_data::{Datum, Fields, Halt};
+use qc_containers::Memory;
+use qc_data::{Datum, Fields, Halt, Items, copy};
 use std::alloc::Global;
+
+// A row beside its values at the keys.
+#[derive(Drop)]
+pub(crate) struct Keyed<'a> {
+    // The values.
+    pub(crate) values: Items,
+    // The row's fields.
+    pub(crate) fields: &'a Fields,
+}
 
 // A kind of values that rows may be ordered by.
 #[derive(Clone, Copy, Debug)]
@@ -35,57 +48,84 @@ pub(crate) fn records_of(alloc: Global, rows: &[Datum]) -> Result<Vec<&Fields>, 
     Ok(records)
 }
 
-// Whether at each key the records' values are there and of one kind.
-pub(crate) fn are_columns(keys: &Keys, records: &[&Fields]) -> bool
-    ensures { result ≡ are_columns keys.now (behind records.now) }
+// The records beside their values at the keys.
+pub(crate) fn with_values<'a>(
+    alloc: Global,
+    keys: &Keys,
+    records: &[&'a Fields],
+) -> Result<Vec<Keyed<'a>>, Memory>
+    ensures { IfOk result (λ made. keyed_rows made.items ≡ map (with_values keys.now) (behind records.now)) }
 {
-    for key in keys.as_slice() {
-        if !is_column(&key.0, records) {
-            return false;
-        }
-    }
-    true
-}
-
-// Whether the records' values at the name are there and of one kind.
-fn is_column(name: &Name, records: &[&Fields]) -> bool
-    ensures { result ≡ is_column name.now (behind records.now) }
-{
-    all_of(Kind::Int, name, records)
-        || all_of(Kind::Text, name, records)
-        || all_of(Kind::Bool, name, records)
-}
-
-// Whether each record has a value of the kind at the name.
-fn all_of(kind: Kind, name: &Name, records: &[&Fields]) -> bool
-    ensures { result ≡ all_of kind name.now (behind records.now) }
-{
+    let mut all = Vec::new(alloc);
     for record in records {
-        if !is_some_of(kind, record.get(name.as_str())) {
-            return false;
-        }
+        let values = values_at(alloc, keys, record)?;
+        let fields = *record;
+        all.push(Keyed { values, fields })?;
     }
-    true
+    Ok(all)
 }
 
-// Whether there is a datum, and it is of the kind.
-fn is_some_of(kind: Kind, d: Option<&Datum>) -> bool
-    ensures { result ≡ is_some_of kind (option_copied d.entry) }
+// The record's values at the keys, and unit where one is not there.
+fn values_at(alloc: Global, keys: &Keys, fields: &Fields) -> Result<Items, Memory>
+    ensures { IfOk result (λ made. made ≡ values_at keys.now fields.now) }
+{
+    let mut values = Items::new(alloc);
+    for key in keys.as_slice() {
+        let value = copied(alloc, fields.get(key.0.as_str()))?;
+        values.add(value)?;
+    }
+    Ok(values)
+}
+
+// A copy of the datum, or unit where there is none.
+fn copied(alloc: Global, d: Option<&Datum>) -> Result<Datum, Memory>
+    ensures { IfOk result (λ made. made ≡ unwrap_or (option_copied d.entry) Nothing) }
 {
     match d {
-        Some(d) => is_of(kind, d),
-        None => false,
+        Some(d) => copy(alloc, d),
+        None => Ok(Datum::Unit),
     }
 }
 
-// Whether the datum is of the kind.
-fn is_of(kind: Kind, d: &Datum) -> bool
-    ensures { result ≡ is_of kind d.now }
+// Whether at each key the rows' values are of one kind.
+pub(crate) fn are_columns(keys: &Keys, rows: &[Keyed]) -> bool
+    ensures { result ≡ are_columns 0 keys.now (keyed_rows rows.now) }
+{
+    for (at, _key) in keys.as_slice().iter().enumerate() {
+        if !is_column(at, rows) {
+            return false;
+        }
+    }
+    true
+}
+
+// Whether the rows' values at the place are of one kind.
+fn is_column(at: usize, rows: &[Keyed]) -> bool
+    ensures { result ≡ one_kind (map (λ row. nth at row.0) (keyed_rows rows.now)) }
+{
+    all_of(Kind::Int, at, rows) || all_of(Kind::Text, at, rows) || all_of(Kind::Bool, at, rows)
+}
+
+// Whether the rows' values at the place are of the kind.
+fn all_of(kind: Kind, at: usize, rows: &[Keyed]) -> bool
+    ensures { result ≡ list_all (is_of kind) (map (λ row. nth at row.0) (keyed_rows rows.now)) }
+{
+    for row in rows {
+        if !is_of(kind, row.values.get(at)) {
+            return false;
+        }
+    }
+    true
+}
+
+// Whether the datum, or unit where there is none, is of the kind.
+fn is_of(kind: Kind, d: Option<&Datum>) -> bool
+    ensures { result ≡ is_of kind (unwrap_or (option_copied d.entry) Nothing) }
 {
     match (kind, d) {
-        (Kind::Int, Datum::Int(_)) => true,
-        (Kind::Text, Datum::Text(_)) => true,
-        (Kind::Bool, Datum::Bool(_)) => true,
+        (Kind::Int, Some(Datum::Int(_))) => true,
+        (Kind::Text, Some(Datum::Text(_))) => true,
+        (Kind::Bool, Some(Datum::Bool(_))) => true,
         _ => false,
     }
 }

@@ -11,11 +11,10 @@ ghost use Rattle.qc_ops.specs.inner.Beside.{Gathers};
 ghost use Rattle.qc_ops.specs.Operands.{as_rec};
 ghost use Rattle.qc_ops.specs.Records.{projection};
 
-use crate::joining::copy_fields;
 use crate::op::Names;
 use crate::operands::{fields_of, items_of};
 use crate::records::{is_among, projection};
-use qc_containers::{Memory, Name};
+use qc_containers::{Memory, Name, Share};
 use qc_data::{Datum, Halt, Items, copy};
 use qc_keys::{Gathering, Key, Tally};
 use std::alloc::Global;
@@ -75,8 +74,7 @@ fn group_of(alloc: Global, g: &Name, key: &Datum, members: Items) -> Result<Datu
     requires { Lacks g.now key.now }
     ensures { Gives (and_then (as_rec key.now) (λ fields. Value (Rec (put g.now (Coll members) fields)))) result }
 {
-    let fields = fields_of(key)?;
-    let mut fields = copy_fields(alloc, fields)?;
+    let mut fields = fields_of(key)?.share(alloc)?;
     let name = g.copy(alloc)?;
     match fields.put(name, Datum::Coll(members)) {
         Ok(()) => Ok(Datum::Rec(fields)),

@@ -83,12 +83,3 @@ fn put_all_last(alloc: Global, all: &mut Fields, more: &[(Name, Datum)]) -> Resu
     }
     Ok(())
 }
-
-// The same fields.
-pub(crate) fn copy_fields(alloc: Global, fields: &Fields) -> Result<Fields, Memory>
-    ensures { IfOk result (λ made. made ≡ fields.now) }
-{
-    let mut all = Fields::new(alloc);
-    put_all_last(alloc, &mut all, fields.as_slice())?;
-    Ok(all)
-}

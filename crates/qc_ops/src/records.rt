@@ -1,7 +1,6 @@
 // Records.
 ghost use Rattle.std.specs.Prelude.{◌≡◌, IfOk};
 ghost use Rattle.qc_data.specs.Outcome.{Gives};
-ghost use Rattle.qc_containers.specs.Rising.{Rising};
 ghost use Rattle.qc_ops.specs.Records.{concatenation, field, fields_at, has_names, is_among, merger};
 ghost use Rattle.qc_ops.specs.Records.{part_of, projection, record_of};
 

@@ -4,15 +4,14 @@ ghost use Rattle.std.specs.Option.{option_copied};
 ghost use Rattle.qc_data.specs.Order.{cmp, sort_by};
 ghost use Rattle.qc_data.specs.Outcome.{Gives};
 ghost use Rattle.qc_data.specs.declared.data.Datum.TheVariants.{Rec, Unit as Nothing};
-ghost use Rattle.qc_ops.specs.inner.Columns.{behind};
-ghost use Rattle.qc_ops.specs.Sorting.{directed, ordered, row_cmp};
+ghost use Rattle.qc_ops.specs.inner.Columns.{keyed_rows, values_cmp};
+ghost use Rattle.qc_ops.specs.Sorting.{directed, ordered};
 
-use crate::columns::{are_columns, records_of};
-use crate::joining::copy_fields;
+use crate::columns::{Keyed, are_columns, records_of, with_values};
 use crate::op::Keys;
 use crate::operands::items_of;
-use qc_containers::Memory;
-use qc_data::{Datum, Fields, Halt, Items, cmp};
+use qc_containers::{Memory, Share};
+use qc_data::{Datum, Halt, Items, cmp};
 use std::alloc::Global;
 use std::cmp::Ordering;
 
@@ -21,30 +20,31 @@ pub(crate) fn ordered(alloc: Global, keys: &Keys, a: &Datum) -> Result<Datum, Ha
 {
     let items = items_of(a)?;
     let records = records_of(alloc, items.as_slice())?;
-    if !are_columns(keys, records.as_slice()) {
+    let rows = with_values(alloc, keys, records.as_slice())?;
+    if !are_columns(keys, rows.as_slice()) {
         return Err(Halt::Stuck);
     }
-    let rows = sorted(keys, records)?;
-    let rows = copied(alloc, rows.as_slice())?;
+    let rows = sorted(keys, rows)?;
+    let rows = without_values(alloc, rows.as_slice())?;
     Ok(Datum::Coll(rows))
 }
 
-// The records in the order of their values at the keys.
-fn sorted<'a>(keys: &Keys, records: Vec<&'a Fields>) -> Result<Vec<&'a Fields>, Memory>
-    ensures { IfOk result (λ made. made.items ≡ sort_by (λ f g. row_cmp keys.now f.now g.now) records.entry.items) }
+// The rows in the order of their values; those that tie keep theirs.
+fn sorted<'a>(keys: &Keys, rows: Vec<Keyed<'a>>) -> Result<Vec<Keyed<'a>>, Memory>
+    ensures { IfOk result (λ made. keyed_rows made.items
+        ≡ sort_by (λ a b. values_cmp 0 keys.now a.0 b.0) (keyed_rows rows.entry.items)) }
 {
-    let mut records = records;
-    records.sort_by(|first, second| row_cmp(keys, first, second))?;
-    Ok(records)
+    let mut rows = rows;
+    rows.sort_by(|first, second| values_cmp(keys, &first.values, &second.values))?;
+    Ok(rows)
 }
 
-// How a record stands to another by the keys in turn.
-fn row_cmp(keys: &Keys, first: &Fields, second: &Fields) -> Ordering
-    ensures { result ≡ row_cmp keys.now first.now second.now }
+// How the values of one row stand to another's by the keys in turn.
+fn values_cmp(keys: &Keys, first: &Items, second: &Items) -> Ordering
+    ensures { result ≡ values_cmp 0 keys.now first.now second.now }
 {
-    for key in keys.as_slice() {
-        let name = key.0.as_str();
-        match directed(key.1, first.get(name), second.get(name)) {
+    for (at, key) in keys.as_slice().iter().enumerate() {
+        match directed(key.1, first.get(at), second.get(at)) {
             Ordering::Equal => {}
             decided => return decided,
         }
@@ -79,13 +79,13 @@ fn value_cmp(first: Option<&Datum>, second: Option<&Datum>) -> Ordering
     }
 }
 
-// Copies of the records.
-fn copied(alloc: Global, records: &[&Fields]) -> Result<Items, Memory>
-    ensures { IfOk result (λ made. made ≡ map Rec (behind records.now)) }
+// The rows alone, shared.
+fn without_values(alloc: Global, rows: &[Keyed]) -> Result<Items, Memory>
+    ensures { IfOk result (λ made. made ≡ map (λ row. Rec row.1) (keyed_rows rows.now)) }
 {
     let mut all = Items::new(alloc);
-    for record in records {
-        let fields = copy_fields(alloc, record)?;
+    for row in rows {
+        let fields = row.fields.share(alloc)?;
         all.add(Datum::Rec(fields))?;
     }
     Ok(all)

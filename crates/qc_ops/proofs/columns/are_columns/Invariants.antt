@@ -1,7 +1,7 @@
 use Rattle.std.proofs.Common.{◌≡◌, drop}
-use Rattle.qc_ops.specs.inner.Columns.{are_columns, behind}
+use Rattle.qc_ops.specs.inner.Columns.{are_columns, keyed_rows}
 use Rattle.qc_ops.proofs.columns.are_columns.Given as goal
 
-abbrev pub invariant-loop-key : goal.invariant-loop-key
-invariant-loop-key l =
-    are_columns l.keys (behind l.records) ≡ are_columns (drop l.key-index l.key-items) (behind l.records)
+abbrev pub invariant-loop-at : goal.invariant-loop-at
+invariant-loop-at l =
+    are_columns 0 l.keys (keyed_rows l.rows) ≡ are_columns l.at (drop l.at l.keys) (keyed_rows l.rows)
