@@ -1,11 +1,10 @@
 // Texts.
-ghost use Rattle.std.specs.Prelude.{◌≡◌, ◌++◌, IfOk};
 ghost use Rattle.qc_data.specs.Outcome.{Gives};
 ghost use Rattle.qc_ops.specs.Texts.{joined, likeness};
 
 use crate::operands::text_of;
 use crate::pattern::like;
-use qc_containers::{Chars, Memory};
+use qc_containers::Chars;
 use qc_data::{Datum, Halt};
 use std::alloc::Global;
 
@@ -21,16 +20,6 @@ pub(crate) fn joined(alloc: Global, a: &Datum, b: &Datum) -> Result<Datum, Halt>
 {
     let first = text_of(a)?;
     let second = text_of(b)?;
-    let both = glue(alloc, first.as_str(), second.as_str())?;
+    let both = Chars::joined(alloc, first.as_str(), second.as_str())?;
     Ok(Datum::Text(both))
-}
-
-// The first text and then the second.
-fn glue(alloc: Global, first: &str, second: &str) -> Result<Chars, Memory>
-    ensures { IfOk result (λ both. both ≡ first.now ++ second.now) }
-{
-    let mut both = String::new(alloc);
-    both.push_str(first)?;
-    both.push_str(second)?;
-    Chars::of(alloc, both.as_str())
 }
