@@ -20,10 +20,10 @@ use Rattle.qc_oql_tree.specs.Kinds.{LEFT, RIGHT, UNBRAND, WHOLES, CONSTANTS, SET
 use Rattle.qc_oql_tree.specs.Kinds.{BRANDINGS, LABELS}
 use Rattle.qc_oql_tree.specs.Lexemes.{kind}
 use Rattle.qc_oql_tree.specs.Trees as trees
-use Rattle.qc_oql_text.specs.declared.value.Value.{Value}
-use Rattle.qc_oql_text.specs.declared.value.Value.TheVariants as value
-use Rattle.qc_oql_text.specs.inner.Actions as actions
-use Rattle.qc_oql_text.specs.inner.Values.{Values, rest, the_mark, the_entries, the_keys}
+use Rattle.qc_oql_table.specs.declared.value.Value.{Value}
+use Rattle.qc_oql_table.specs.declared.value.Value.TheVariants as value
+use Rattle.qc_oql_table.specs.Actions as actions
+use Rattle.qc_oql_table.specs.Values.{Values, rest, the_mark, the_entries, the_keys}
 use Rattle.qc_grammar.proofs.Walks.{Kept, AllKept, none, also}
 
 -- a value of a language on top of the stack
