@@ -1,5 +1,5 @@
 -- The grammar and the table say the same.
-use Rattle.std.proofs.Common.{◌≡◌, ◌≤◌, ℕ, List, [], ◌∷◌, length, drop, map, refl, sym, ap, ◌∙◌, subst, arith}
+use Rattle.std.proofs.Common.{◌≡◌, ℕ, List, [], ◌∷◌, length, drop, map, refl, sym, ap, ◌∙◌, subst, arith}
 use Rattle.std.specs.Prelude.{Result, Ok, Err}
 use Rattle.qc_grammar.specs.declared.fault.SyntaxFault.{SyntaxFault}
 use Rattle.qc_grammar.specs.declared.symbol.Event.{Event}
@@ -9,8 +9,6 @@ use Rattle.qc_grammar.specs.Parsing.{Parses}
 use Rattle.qc_grammar.proofs.Lifted as lifted
 use Rattle.qc_grammar.proofs.Lifted.{map_length}
 use Rattle.qc_lex.specs.declared.token.Lexeme.{Lexeme}
-use Rattle.qc_oql_tree.specs.declared.tree.Oql.{Oql}
-use Rattle.qc_oql_tree.specs.declared.tree.Named.{Named}
 use Rattle.qc_oql_tree.specs.declared.tree.Query as queries
 use Rattle.qc_oql_tree.specs.Grammar as rel
 use Rattle.qc_oql_tree.specs.Lexemes.{kind}

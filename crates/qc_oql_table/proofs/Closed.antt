@@ -1,10 +1,8 @@
 -- Each alternative of the table is a case of the grammar.
-use Rattle.std.proofs.Common.{◌≡◌, ◌||◌, ℕ, suc, Bool, true, false, ℤ, neg_ℤ, List, [], ◌∷◌, ◌++◌, map, refl, sym, ap}
-use Rattle.std.proofs.Common.{◌∙◌, subst, eqb, slice_get, Some, None}
+use Rattle.std.proofs.Common.{◌≡◌, ◌||◌, ℕ, suc, true, false, ℤ, neg_ℤ, List, [], ◌∷◌, ◌++◌, map, refl, sym, ap}
+use Rattle.std.proofs.Common.{◌∙◌, subst, eqb, Some, None}
 use Rattle.std.proofs.lemmas.Bool.{eq-eqb}
 use Rattle.std.proofs.Math.Bool.{or-true}
-use Rattle.qc_grammar.specs.declared.symbol.Symbol.{Symbol}
-use Rattle.qc_grammar.specs.declared.symbol.Symbol.TheVariants.{Token}
 use Rattle.qc_grammar.specs.inner.Derivations.{alternatives}
 use Rattle.qc_oql_tree.specs.Kinds.{among}
 use Rattle.qc_lex.specs.declared.token.Lexeme.{Lexeme}
@@ -14,7 +12,7 @@ use Rattle.qc_oql_tree.specs.declared.tree.Oql.{Oql}
 use Rattle.qc_oql_tree.specs.declared.tree.Oql.TheVariants as tree
 use Rattle.qc_oql_tree.specs.declared.tree.Quantifier.TheVariants as quantifier
 use Rattle.qc_oql_tree.specs.Grammar as rel
-use Rattle.qc_oql_tree.specs.Kinds.{NAME, DISTINCT, IF, FOR, EXISTS, TRUE, FALSE, NIL, CAST, BRAND, NOT, MINUS, TEXT}
+use Rattle.qc_oql_tree.specs.Kinds.{NAME, DISTINCT, IF, FOR, EXISTS, NOT, MINUS, TEXT}
 use Rattle.qc_oql_tree.specs.Kinds.{OPEN, CLOSE, COLON, STRUCT, BAG, MATCH}
 use Rattle.qc_oql_tree.specs.Kinds.{WHOLES, CONSTANTS, SETS, SUMS, DIVISIONS, TESTS, UNARIES, BINARIES, BRANDINGS}
 use Rattle.qc_oql_tree.specs.Kinds.{LABELS}
@@ -25,8 +23,8 @@ use Rattle.qc_oql_table.specs.declared.value.Value.TheVariants as value
 use Rattle.qc_oql_table.specs.Actions as actions
 use Rattle.qc_oql_table.specs.Actions.{act}
 use Rattle.qc_oql_table.specs.Table.{grammar}
-use Rattle.qc_oql_table.specs.Values.{Values, rest, the_mark, the_entries, the_keys, the_members, the_tree}
-use Rattle.qc_grammar.proofs.Walks.{Kept, of, Left, Closes, AllClose}
+use Rattle.qc_oql_table.specs.Values.{Values, rest, the_entries, the_keys, the_members, the_tree}
+use Rattle.qc_grammar.proofs.Walks.{of, Closes, AllClose}
 use Rattle.qc_oql_table.proofs.Words as words
 use Rattle.qc_oql_table.proofs.Words.{puts, grows, PLAIN_UNARIES}
 

@@ -1,10 +1,8 @@
 -- What the words of each rule of the table are in the grammar, and what they make of the stack.
-use Rattle.std.proofs.Common.{◌≡◌, ◌&&◌, ℕ, suc, pred, Bool, true, false, List, [], ◌∷◌, ◌++◌, map, refl, eqb}
-use Rattle.std.proofs.Common.{slice_get, Some}
+use Rattle.std.proofs.Common.{◌≡◌, ℕ, suc, List, [], ◌∷◌, ◌++◌}
 use Rattle.std.specs.Prelude.{Option}
 use Rattle.qc_grammar.specs.declared.symbol.Symbol.{Symbol}
 use Rattle.qc_grammar.specs.declared.symbol.Symbol.TheVariants.{Token}
-use Rattle.qc_oql_tree.specs.Kinds.{among}
 use Rattle.qc_lex.specs.declared.token.Lexeme.{Lexeme}
 use Rattle.qc_oql_tree.specs.declared.tree.Direction.{Direction}
 use Rattle.qc_oql_tree.specs.declared.tree.Filter.{Filter}

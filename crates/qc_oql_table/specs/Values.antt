@@ -1,6 +1,6 @@
 -- The stack of values on which the actions of the grammar work. Where another value is on top than an action wants, it
 -- takes one that stands for it, so that actions are total. In a word of the grammar that never comes.
-use Rattle.std.specs.Prelude.{ℕ, ℤ, pos, List, [], ◌∷◌, Option, Some, None}
+use Rattle.std.specs.Prelude.{ℤ, pos, List, [], ◌∷◌, Option, None}
 use Rattle.qc_oql_tree.specs.declared.tree.Constant.TheVariants as constant
 use Rattle.qc_oql_tree.specs.declared.tree.Filter.{Filter}
 use Rattle.qc_oql_tree.specs.declared.tree.Key.{Key}
