@@ -1,5 +1,5 @@
 -- A query has at most one node for each token.
-use Rattle.std.proofs.Common.{◌≤◌, ℕ, suc, ◌+◌, List, [], ◌∷◌, ◌++◌, length, arith}
+use Rattle.std.proofs.Common.{◌≡◌, ◌≤◌, ℕ, suc, ◌+◌, List, [], ◌∷◌, ◌++◌, length, arith}
 use Rattle.std.proofs.lemmas.List.Sums.{sum_by-append}
 use Rattle.std.specs.List.{sum_by}
 use Rattle.std.specs.Prelude.{ℤ, Bool, Option, Result, Ok, Err, IfOk}
@@ -17,6 +17,7 @@ use Rattle.qc_oql_tree.specs.declared.tree.Named.{Named}
 use Rattle.qc_oql_tree.specs.declared.tree.Oql.{Oql}
 use Rattle.qc_oql_tree.specs.declared.tree.Oql.TheVariants as tree
 use Rattle.qc_oql_tree.specs.declared.tree.Order.{Order}
+use Rattle.qc_oql_tree.specs.declared.tree.Quantifier.{Quantifier}
 use Rattle.qc_oql_tree.specs.declared.tree.Quantifier.TheVariants as quantifier
 use Rattle.qc_oql_tree.specs.declared.tree.Query as queries
 use Rattle.qc_oql_tree.specs.declared.tree.Select.{Select}
