@@ -1,10 +1,3 @@
-mod Bridge
-mod Checked
-mod Closed
-mod Complete
 mod Nodes
-mod Notes
-mod Samples
 mod Scanned
 mod Sizes
-mod Words

@@ -1,25 +1,25 @@
 // The actions of the grammar, by their numbers.
 ghost use Rattle.std.specs.Prelude.{◌≡◌, OnOk};
 ghost use Rattle.qc_lex.specs.Words.{lexemes};
-ghost use Rattle.qc_oql_text.specs.inner.Actions as spec;
+ghost use Rattle.qc_oql_table.specs.Actions as spec;
 
-use crate::table::{
+use crate::{lists, tokens, trees};
+use qc_containers::{List, Memory};
+use qc_grammar::{Event, Stack};
+use qc_lex::Words;
+use qc_oql_table::Value;
+use qc_oql_table::actions::{
     DO_ASC, DO_BAG, DO_BINARY, DO_BRAND, DO_CALL, DO_CONSTANT, DO_DESC, DO_DIVIDE, DO_DOT,
     DO_ENTRY, DO_EXISTS, DO_FILTER, DO_FOR_ALL, DO_IF_ELSE, DO_LIKE, DO_MARK, DO_MEMBER, DO_NAME,
     DO_NEGATIVE, DO_NO_FILTER, DO_NO_KEYS, DO_NO_MEMBERS, DO_NO_ORDER, DO_NONE, DO_ORDER,
     DO_POSITIVE, DO_SELECT, DO_SELECT_DISTINCT, DO_STRUCT, DO_TEXT, DO_UNARY, DO_VARIABLE,
     DO_WHOLE,
 };
-use crate::value::Value;
-use crate::{lists, tokens, trees};
-use qc_containers::{List, Memory};
-use qc_grammar::{Event, Stack};
-use qc_lex::Words;
 use qc_oql_tree::{Direction, Quantifier};
 use std::alloc::Global;
 
 /// An action of a word, behind the tokens before it.
-#[tactic(auto, unfolding(crate::specs::inner::Actions::act))]
+#[tactic(auto, unfolding(qc_oql_table::specs::Actions::act))]
 pub(crate) fn act(
     alloc: Global,
     words: &Words,
@@ -56,7 +56,7 @@ pub(crate) fn act(
 }
 
 /// An action that begins or grows a list, or makes a tree.
-#[tactic(auto, unfolding(crate::specs::inner::Actions::act_list))]
+#[tactic(auto, unfolding(qc_oql_table::specs::Actions::act_list))]
 fn act_list(alloc: Global, action: u32, stack: &mut Stack<Value>) -> Result<(), Memory>
     ensures { OnOk result (stack.new ≡ spec.act_list action stack.old) }
 {
@@ -84,7 +84,7 @@ fn act_list(alloc: Global, action: u32, stack: &mut Stack<Value>) -> Result<(), 
 }
 
 /// An action that makes a tree of its parts.
-#[tactic(auto, unfolding(crate::specs::inner::Actions::act_tree))]
+#[tactic(auto, unfolding(qc_oql_table::specs::Actions::act_tree))]
 fn act_tree(alloc: Global, action: u32, stack: &mut Stack<Value>) -> Result<(), Memory>
     ensures { OnOk result (stack.new ≡ spec.act_tree action stack.old) }
 {

@@ -5,9 +5,7 @@ mod actions;
 mod lists;
 mod reader;
 mod stack;
-mod table;
 mod tokens;
 mod trees;
-mod value;
 
 pub use reader::parse;

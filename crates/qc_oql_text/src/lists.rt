@@ -1,11 +1,11 @@
 // Actions that grow lists.
 ghost use Rattle.std.specs.Prelude.{◌≡◌, OnOk};
-ghost use Rattle.qc_oql_text.specs.inner.Actions as spec;
+ghost use Rattle.qc_oql_table.specs.Actions as spec;
 
 use crate::stack::{take_entries, take_entry, take_keys, take_members, take_tree};
-use crate::value::Value;
 use qc_containers::Memory;
 use qc_grammar::Stack;
+use qc_oql_table::Value;
 use qc_oql_tree::{Direction, Key};
 use std::alloc::Global;
 

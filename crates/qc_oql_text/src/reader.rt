@@ -1,22 +1,18 @@
 // Whole scans to trees.
-ghost use Rattle.std.specs.Prelude.{◌≡◌, ◌≤◌, map, length, IfOk};
+ghost use Rattle.std.specs.Prelude.{◌≡◌, ◌≤◌, length, IfOk};
 ghost use Rattle.qc_grammar.specs.Parsing.{Parses};
-ghost use Rattle.qc_grammar.specs.inner.Derivations.{Whole};
 ghost use Rattle.qc_lex.specs.Words.{lexemes};
 ghost use Rattle.qc_oql_tree.specs.Grammar as oql;
-ghost use Rattle.qc_oql_tree.specs.Lexemes.{kind};
 ghost use Rattle.qc_oql_tree.specs.Sizes.{query_size};
-ghost use Rattle.qc_oql_text.specs.inner.Actions as spec;
-ghost use Rattle.qc_oql_text.specs.inner.Meaning.{Means};
-ghost use Rattle.qc_oql_text.specs.inner.Table.{grammar};
+ghost use Rattle.qc_oql_table.specs.Actions as spec;
 
 use crate::actions::act;
 use crate::stack::{take_entries, take_tree};
-use crate::table::{STEPS, TURNS, WIDTH};
-use qc_containers::{List, Memory};
-use qc_grammar::{Event, Stack, SyntaxFault, Table, read};
+use qc_containers::Memory;
+use qc_grammar::{Event, Stack, SyntaxFault};
 use qc_lex::Words;
-use qc_oql_tree::{Lexeme, Query};
+use qc_oql_table::derivation;
+use qc_oql_tree::Query;
 use std::alloc::Global;
 
 /// The one query that the whole list of tokens spells (`Parses`), which has at most one node for each token.
@@ -26,12 +22,12 @@ pub fn parse(alloc: Global, words: &Words) -> Result<Query, SyntaxFault>
     ensures parses { Parses oql.Query (lexemes words.now) result }
     ensures small { IfOk result (λ query. query_size query ≤ length words.now) }
 {
-    by_table(alloc, words)
+    tree(alloc, words)
 }
 
-/// The query that the table spells, which is the grammar's.
-fn by_table(alloc: Global, words: &Words) -> Result<Query, SyntaxFault>
-    ensures { Parses Means (lexemes words.now) result }
+/// The same, without a word on the query's size.
+fn tree(alloc: Global, words: &Words) -> Result<Query, SyntaxFault>
+    ensures { Parses oql.Query (lexemes words.now) result }
 {
     match derivation(alloc, words) {
         Ok(events) => match query(alloc, words, events.as_slice()) {
@@ -39,35 +35,6 @@ fn by_table(alloc: Global, words: &Words) -> Result<Query, SyntaxFault>
             Err(Memory) => Err(SyntaxFault::Memory),
         },
         Err(fault) => Err(fault),
-    }
-}
-
-/// The kinds of the tokens.
-fn kinds(alloc: Global, words: &Words) -> Result<List<u32>, Memory>
-    ensures all { IfOk result (λ kinds. kinds ≡ map kind (lexemes words.now)) }
-    ensures few { IfOk result (λ kinds. length kinds ≤ 1000) }
-{
-    let mut kinds = List::new(alloc);
-    for at in 0..words.len() {
-        kinds.add(Lexeme { words, at }.kind())?;
-    }
-    Ok(kinds)
-}
-
-/// The actions of the derivation that the tokens have, or the place of the fault.
-fn derivation(alloc: Global, words: &Words) -> Result<List<Event>, SyntaxFault>
-    ensures { Parses (Whole grammar) (map kind (lexemes words.now)) result }
-{
-    match kinds(alloc, words) {
-        Ok(kinds) => {
-            let table = Table {
-                steps: STEPS,
-                width: WIDTH,
-                turns: TURNS,
-            };
-            read(alloc, table, kinds.as_slice())
-        }
-        Err(Memory) => Err(SyntaxFault::Memory),
     }
 }
 

@@ -1,28 +1,28 @@
-// Values taken from the stack. Where another is on top than is wanted, one stands for it (specs/inner/Values.antt).
+// Values taken from the stack. Where another is on top than is wanted, one stands for it (qc_oql_table/specs/Values.antt).
 ghost use Rattle.std.specs.Prelude.{◌≡◌, [], IfOk};
-ghost use Rattle.qc_oql_text.specs.inner.Values as spec;
+ghost use Rattle.qc_oql_table.specs.Values as spec;
 
-use crate::value::{Mark, Value, Word};
 use qc_containers::{Chars, List, Memory};
 use qc_grammar::Stack;
+use qc_oql_table::{Mark, Value, Word};
 use qc_oql_tree::{Constant, Filter, Key, Named, Oql, Order};
 use std::alloc::Global;
 
 /// Lets a value go that is not wanted.
-fn let_go(_value: Option<Value>) {}
+fn let_go<T: Drop>(_value: T) {}
 
 /// Takes the place and the kind of a token.
 pub(crate) fn take_mark(stack: &mut Stack<Value>) -> Mark
     ensures value { result ≡ spec.the_mark stack.old }
     ensures rest { stack.new ≡ spec.rest stack.old }
 {
-    match stack.pop() {
-        Some(Value::Mark(mark)) => mark,
-        other => {
-            let_go(other);
-            Mark { at: 0, kind: 0 }
-        }
-    }
+    let top = stack.pop();
+    let mark = match &top {
+        Some(Value::Mark(mark)) => *mark,
+        _ => Mark { at: 0, kind: 0 },
+    };
+    let_go(top);
+    mark
 }
 
 /// The word that stands for one.
@@ -61,13 +61,13 @@ pub(crate) fn take_divisor(stack: &mut Stack<Value>) -> i64
     ensures value { result ≡ spec.the_divisor stack.old }
     ensures rest { stack.new ≡ spec.rest stack.old }
 {
-    match stack.pop() {
-        Some(Value::Divisor(divisor)) => divisor,
-        other => {
-            let_go(other);
-            0
-        }
-    }
+    let top = stack.pop();
+    let divisor = match &top {
+        Some(Value::Divisor(divisor)) => *divisor,
+        _ => 0,
+    };
+    let_go(top);
+    divisor
 }
 
 /// Takes an expression.

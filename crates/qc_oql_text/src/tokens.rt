@@ -2,13 +2,13 @@
 ghost use Rattle.std.specs.Prelude.{◌≡◌, pred, OnOk};
 ghost use Rattle.qc_lex.specs.Words.{lexemes};
 ghost use Rattle.qc_oql_tree.specs.Lexemes.{lexeme};
-ghost use Rattle.qc_oql_text.specs.inner.Actions as spec;
+ghost use Rattle.qc_oql_table.specs.Actions as spec;
 
 use crate::stack::{take_mark, take_tree};
-use crate::value::{Mark, Value, Word};
 use qc_containers::{Boxed, Memory};
 use qc_grammar::Stack;
 use qc_lex::Words;
+use qc_oql_table::{Mark, Value, Word};
 use qc_oql_tree::operators::constant_of;
 use qc_oql_tree::{Lexeme, Oql};
 use std::alloc::Global;

@@ -1,14 +1,14 @@
 // Actions that make a tree of its parts.
 ghost use Rattle.std.specs.Prelude.{◌≡◌, OnOk};
-ghost use Rattle.qc_oql_text.specs.inner.Actions as spec;
+ghost use Rattle.qc_oql_table.specs.Actions as spec;
 
 use crate::stack::{
     take_divisor, take_entries, take_entry, take_filter, take_keys, take_mark, take_members,
     take_order, take_text, take_tree,
 };
-use crate::value::Value;
 use qc_containers::{Boxed, Memory};
 use qc_grammar::Stack;
+use qc_oql_table::Value;
 use qc_oql_tree::operators::{binary_of, branding_of, division_of, unary_of};
 use qc_oql_tree::{Filter, Oql, Order, Quantifier, Select, making};
 use std::alloc::Global;

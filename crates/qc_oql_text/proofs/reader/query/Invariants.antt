@@ -1,6 +1,6 @@
 use Rattle.std.proofs.Common.{◌≡◌, [], length}
 use Rattle.qc_lex.specs.Words.{lexemes}
-use Rattle.qc_oql_text.specs.inner.Actions.{run}
+use Rattle.qc_oql_table.specs.Actions.{run}
 use Rattle.qc_oql_text.proofs.reader.query.Given as goal
 
 abbrev pub invariant-loop-event : goal.invariant-loop-event

@@ -4,8 +4,8 @@ use Rattle.qc_grammar.specs.inner.Language as language
 use Rattle.qc_lex.specs.declared.token.Lexeme.{Lexeme}
 use Rattle.qc_oql_tree.specs.declared.tree.Query.{Query}
 use Rattle.qc_oql_tree.specs.Lexemes.{kind}
-use Rattle.qc_oql_text.specs.inner.Actions.{query_of}
-use Rattle.qc_oql_text.specs.inner.Table.{grammar}
+use Rattle.qc_oql_table.specs.Actions.{query_of}
+use Rattle.qc_oql_table.specs.Table.{grammar}
 
 -- the tokens have a derivation whose actions make the query
 abbrev pub Means : List Lexeme → Query → Type 0

@@ -4,7 +4,7 @@ use qc_oql_tree::{Filter, Key, Named, Oql, Order};
 
 /// The place and the kind of a token.
 #[derive(Clone, Copy)]
-pub(crate) struct Mark {
+pub struct Mark {
     /// The number of the token.
     pub at: u32,
     /// Its kind.
@@ -13,7 +13,7 @@ pub(crate) struct Mark {
 
 /// The text of a token.
 #[derive(Drop)]
-pub(crate) struct Word {
+pub struct Word {
     /// The number of the token.
     pub at: u32,
     /// Its text.
@@ -22,7 +22,7 @@ pub(crate) struct Word {
 
 /// What an action leaves for a later one.
 #[derive(Drop)]
-pub(crate) enum Value {
+pub enum Value {
     /// The token of an operator, a function or a form.
     Mark(Mark),
     /// A name.

@@ -1,7 +1,7 @@
-use Rattle.std.proofs.Common.{◌≡◌, length, ◌++◌, ◌∷◌, [], refl, ap, ◌∙◌, arith}
+use Rattle.std.proofs.Common.{length, ◌++◌, ◌∷◌, [], refl, ap, ◌∙◌, arith}
 use Rattle.std.proofs.lemmas.List.{length-append}
-use Rattle.qc_oql_text.proofs.Scanned.{next_kind, all_kinds}
-use Rattle.qc_oql_text.proofs.reader.kinds.Goals as goal
+use Rattle.qc_oql_table.proofs.Scanned.{next_kind, all_kinds}
+use Rattle.qc_oql_table.proofs.reading.kinds.Goals as goal
 
 pub loop-at-init : goal.loop-at-init
 loop-at-init c = rw c.new-kinds.ensures (refl, refl)

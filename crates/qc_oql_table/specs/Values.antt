@@ -1,6 +1,6 @@
 -- The stack of values on which the actions of the grammar work. Where another value is on top than an action wants, it
 -- takes one that stands for it, so that actions are total. In a word of the grammar that never comes.
-use Rattle.std.specs.Prelude.{ℕ, ℤ, pos, List, [], ◌∷◌, Option, Some, None}
+use Rattle.std.specs.Prelude.{ℤ, pos, List, [], ◌∷◌, Option, None}
 use Rattle.qc_oql_tree.specs.declared.tree.Constant.TheVariants as constant
 use Rattle.qc_oql_tree.specs.declared.tree.Filter.{Filter}
 use Rattle.qc_oql_tree.specs.declared.tree.Key.{Key}
@@ -9,11 +9,11 @@ use Rattle.qc_oql_tree.specs.declared.tree.Oql.{Oql}
 use Rattle.qc_oql_tree.specs.declared.tree.Oql.TheVariants as tree
 use Rattle.qc_oql_tree.specs.declared.tree.Order as orders
 use Rattle.qc_oql_tree.specs.Trees.{named}
-use Rattle.qc_oql_text.specs.declared.value.Mark as marks
-use Rattle.qc_oql_text.specs.declared.value.Word as words
-use Rattle.qc_oql_text.specs.declared.value.Value.{Value}
-use Rattle.qc_oql_text.specs.declared.value.Value.TheVariants.{Mark, Name, Divisor, Tree, Members, Entries, Keys}
-use Rattle.qc_oql_text.specs.declared.value.Value.TheVariants.{Filtered, Ordered}
+use Rattle.qc_oql_table.specs.declared.value.Mark as marks
+use Rattle.qc_oql_table.specs.declared.value.Word as words
+use Rattle.qc_oql_table.specs.declared.value.Value.{Value}
+use Rattle.qc_oql_table.specs.declared.value.Value.TheVariants.{Mark, Name, Divisor, Tree, Members, Entries, Keys}
+use Rattle.qc_oql_table.specs.declared.value.Value.TheVariants.{Filtered, Ordered}
 
 -- the last value first
 abbrev pub Values : Type 0

@@ -6,7 +6,7 @@ use Rattle.qc_lex.specs.declared.token.Lexeme.{Lexeme}
 use Rattle.qc_lex.specs.declared.token.Kind.TheVariants.{Word, Whole, Text, Mark}
 use Rattle.qc_oql_tree.specs.Kinds.{ZERO, NONZERO, TEXT}
 use Rattle.qc_oql_tree.specs.Lexemes.{kind, words, marks}
-use Rattle.qc_oql_text.specs.inner.Table.{grammar}
+use Rattle.qc_oql_table.specs.Table.{grammar}
 
 -- the piece beside a kind in the table, or else another
 abbrev pub piece_in : List (List ℕ × ℕ) → List ℕ → ℕ → List ℕ

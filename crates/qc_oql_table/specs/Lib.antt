@@ -1,4 +1,4 @@
 pub mod Actions
-pub mod Meaning
 pub mod Table
 pub mod Values
+pub mod inner

@@ -1,6 +1,7 @@
 -- What the actions of the grammar do with a stack of values, behind so many tokens.
 use Rattle.std.specs.Prelude.{ℕ, ℤ, neg_ℤ, Bool, true, false, pred, if◌then◌else◌, eqb, List, [], ◌∷◌, ◌++◌}
-use Rattle.std.specs.Prelude.{Some, None}
+use Rattle.std.specs.Prelude.{Some, None, Result, Ok, Err}
+use Rattle.qc_grammar.specs.declared.fault.SyntaxFault.{SyntaxFault}
 use Rattle.qc_grammar.specs.declared.symbol.Event.{Event}
 use Rattle.qc_lex.specs.declared.token.Lexeme.{Lexeme}
 use Rattle.qc_oql_tree.specs.declared.tree.Direction.{Direction}
@@ -12,15 +13,15 @@ use Rattle.qc_oql_tree.specs.declared.tree.Query.{Query}
 use Rattle.qc_oql_tree.specs.Lexemes as lexemes
 use Rattle.qc_oql_tree.specs.Operators.{constant_of, unary_of, binary_of, division_of, branding_of}
 use Rattle.qc_oql_tree.specs.Trees as trees
-use Rattle.qc_oql_text.specs.declared.value.Value.TheVariants.{Mark, Name, Divisor, Tree, Members, Entries, Keys}
-use Rattle.qc_oql_text.specs.declared.value.Value.TheVariants.{Filtered, Ordered}
-use Rattle.qc_oql_text.specs.inner.Table.{DO_NONE, DO_NAME, DO_ENTRY, DO_MARK, DO_SELECT_DISTINCT, DO_SELECT, DO_FILTER}
-use Rattle.qc_oql_text.specs.inner.Table.{DO_NO_FILTER, DO_NO_KEYS, DO_ORDER, DO_NO_ORDER, DO_ASC, DO_DESC, DO_IF_ELSE}
-use Rattle.qc_oql_text.specs.inner.Table.{DO_FOR_ALL, DO_EXISTS, DO_UNARY, DO_BINARY, DO_LIKE, DO_DIVIDE, DO_NEGATIVE}
-use Rattle.qc_oql_text.specs.inner.Table.{DO_POSITIVE, DO_DOT, DO_WHOLE, DO_TEXT, DO_CONSTANT, DO_VARIABLE, DO_STRUCT}
-use Rattle.qc_oql_text.specs.inner.Table.{DO_NO_MEMBERS, DO_BAG, DO_CALL, DO_BRAND, DO_MEMBER}
-use Rattle.qc_oql_text.specs.inner.Values.{Values, rest, the_mark, the_word, the_divisor, the_tree, the_members}
-use Rattle.qc_oql_text.specs.inner.Values.{the_entries, the_keys, the_filter, the_order, the_entry}
+use Rattle.qc_oql_table.specs.declared.value.Value.TheVariants.{Mark, Name, Divisor, Tree, Members, Entries, Keys}
+use Rattle.qc_oql_table.specs.declared.value.Value.TheVariants.{Filtered, Ordered}
+use Rattle.qc_oql_table.specs.Table.{DO_NONE, DO_NAME, DO_ENTRY, DO_MARK, DO_SELECT_DISTINCT, DO_SELECT, DO_FILTER}
+use Rattle.qc_oql_table.specs.Table.{DO_NO_FILTER, DO_NO_KEYS, DO_ORDER, DO_NO_ORDER, DO_ASC, DO_DESC, DO_IF_ELSE}
+use Rattle.qc_oql_table.specs.Table.{DO_FOR_ALL, DO_EXISTS, DO_UNARY, DO_BINARY, DO_LIKE, DO_DIVIDE, DO_NEGATIVE}
+use Rattle.qc_oql_table.specs.Table.{DO_POSITIVE, DO_DOT, DO_WHOLE, DO_TEXT, DO_CONSTANT, DO_VARIABLE, DO_STRUCT}
+use Rattle.qc_oql_table.specs.Table.{DO_NO_MEMBERS, DO_BAG, DO_CALL, DO_BRAND, DO_MEMBER}
+use Rattle.qc_oql_table.specs.Values.{Values, rest, the_mark, the_word, the_divisor, the_tree, the_members}
+use Rattle.qc_oql_table.specs.Values.{the_entries, the_keys, the_filter, the_order, the_entry}
 
 -- ---- the token before
 
@@ -212,3 +213,8 @@ query s = record { defines = the_entries (rest s); body = the_tree s }
 -- the query of a derivation
 abbrev pub query_of : List Lexeme → List Event → Query
 query_of ts es = query (run ts es [])
+
+-- what is made of a derivation, or the fault where there is none
+abbrev pub made : List Lexeme → Result (List Event) SyntaxFault → Result Query SyntaxFault
+made ts (Ok es) = Ok (query_of ts es)
+made ts (Err fault) = Err fault

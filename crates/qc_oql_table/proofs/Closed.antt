@@ -1,10 +1,8 @@
 -- Each alternative of the table is a case of the grammar.
-use Rattle.std.proofs.Common.{◌≡◌, ◌||◌, ℕ, suc, Bool, true, false, ℤ, neg_ℤ, List, [], ◌∷◌, ◌++◌, map, refl, sym, ap}
-use Rattle.std.proofs.Common.{◌∙◌, subst, eqb, slice_get, Some, None}
+use Rattle.std.proofs.Common.{◌≡◌, ◌||◌, ℕ, suc, true, false, ℤ, neg_ℤ, List, [], ◌∷◌, ◌++◌, map, refl, sym, ap}
+use Rattle.std.proofs.Common.{◌∙◌, subst, eqb, Some, None}
 use Rattle.std.proofs.lemmas.Bool.{eq-eqb}
 use Rattle.std.proofs.Math.Bool.{or-true}
-use Rattle.qc_grammar.specs.declared.symbol.Symbol.{Symbol}
-use Rattle.qc_grammar.specs.declared.symbol.Symbol.TheVariants.{Token}
 use Rattle.qc_grammar.specs.inner.Derivations.{alternatives}
 use Rattle.qc_oql_tree.specs.Kinds.{among}
 use Rattle.qc_lex.specs.declared.token.Lexeme.{Lexeme}
@@ -14,21 +12,26 @@ use Rattle.qc_oql_tree.specs.declared.tree.Oql.{Oql}
 use Rattle.qc_oql_tree.specs.declared.tree.Oql.TheVariants as tree
 use Rattle.qc_oql_tree.specs.declared.tree.Quantifier.TheVariants as quantifier
 use Rattle.qc_oql_tree.specs.Grammar as rel
-use Rattle.qc_oql_tree.specs.Kinds.{NAME, DISTINCT, IF, FOR, EXISTS, TRUE, FALSE, NIL, CAST, BRAND, NOT, MINUS, TEXT}
+use Rattle.qc_oql_tree.specs.Kinds.{NAME, DISTINCT, IF, FOR, EXISTS, NOT, MINUS, TEXT}
 use Rattle.qc_oql_tree.specs.Kinds.{OPEN, CLOSE, COLON, STRUCT, BAG, MATCH}
 use Rattle.qc_oql_tree.specs.Kinds.{WHOLES, CONSTANTS, SETS, SUMS, DIVISIONS, TESTS, UNARIES, BINARIES, BRANDINGS}
 use Rattle.qc_oql_tree.specs.Kinds.{LABELS}
 use Rattle.qc_oql_tree.specs.Lexemes.{kind, whole, content, lexeme_at}
 use Rattle.qc_oql_tree.specs.Operators.{constant_of, unary_of, binary_of, division_of, branding_of}
 use Rattle.qc_oql_tree.specs.Trees as trees
-use Rattle.qc_oql_text.specs.declared.value.Value.TheVariants as value
-use Rattle.qc_oql_text.specs.inner.Actions as actions
-use Rattle.qc_oql_text.specs.inner.Actions.{act}
-use Rattle.qc_oql_text.specs.inner.Table.{grammar}
-use Rattle.qc_oql_text.specs.inner.Values.{Values, rest, the_mark, the_entries, the_keys, the_members, the_tree}
-use Rattle.qc_grammar.proofs.Walks.{Kept, of, Left, Closes, AllClose}
-use Rattle.qc_oql_text.proofs.Words as words
-use Rattle.qc_oql_text.proofs.Words.{puts, grows, PLAIN_UNARIES}
+use Rattle.qc_oql_table.specs.declared.value.Value.TheVariants as value
+use Rattle.qc_oql_table.specs.Actions as actions
+use Rattle.qc_oql_table.specs.Actions.{act}
+use Rattle.qc_oql_table.specs.Table.{grammar}
+use Rattle.qc_oql_table.specs.Values.{Values, rest, the_entries, the_keys, the_members, the_tree}
+use Rattle.qc_grammar.proofs.Walks.{of, Closes, AllClose}
+use Rattle.qc_oql_table.proofs.Words as words
+use Rattle.qc_oql_table.proofs.Words.{puts, grows, PLAIN_UNARIES}
+
+-- a pair; of a long row of pairs each is one more name in the text
+infixr 5 ◌&◌
+abbrev ◌&◌ : {A B : Type 0} → A → B → A × B
+a & b = (a, b)
 
 -- one more entry
 with_entry : (n : Named) (s : Values) (xs : List Named) (r : Values) → s ≡ value.Entries xs ∷ r
@@ -1053,196 +1056,14 @@ module _ (ts : List Lexeme) where
 
   pub closed : AllClose K (act ts) (words.words ts) 0 grammar
   unfolding grammar
-  closed = (
-    of_query,
-    (
-      of_defines,
-      (
-        of_end,
-        (
-          of_expr,
-          (
-            of_selection,
-            (
-              of_sources,
-              (
-                of_bindings,
-                (
-                  of_binding,
-                  (
-                    of_filter,
-                    (
-                      of_order,
-                      (
-                        of_keys,
-                        (
-                          of_key,
-                          (
-                            of_direction,
-                            (
-                              of_q,
-                              (
-                                of_q_but_distinct,
-                                (
-                                  of_q_head,
-                                  (
-                                    of_exists_rest,
-                                    (
-                                      of_or_but_exists,
-                                      (
-                                        of_and_but_exists,
-                                        (
-                                          of_not_but_exists,
-                                          (
-                                            of_rel_but_exists,
-                                            (
-                                              of_sets_but_exists,
-                                              (
-                                                of_sum_but_exists,
-                                                (
-                                                  of_product_but_exists,
-                                                  (
-                                                    of_neg_but_exists,
-                                                    (
-                                                      of_path_but_exists,
-                                                      (
-                                                        of_or_but_both,
-                                                        (
-                                                          of_and_but_both,
-                                                          (
-                                                            of_not_but_both,
-                                                            (
-                                                              of_rel_but_both,
-                                                              (
-                                                                of_sets_but_both,
-                                                                (
-                                                                  of_sum_but_both,
-                                                                  (
-                                                                    of_product_but_both,
-                                                                    (
-                                                                      of_neg_but_both,
-                                                                      (
-                                                                        of_path_but_both,
-                                                                        (
-                                                                          of_and,
-                                                                          (
-                                                                            of_not,
-                                                                            (
-                                                                              of_rel,
-                                                                              (
-                                                                                of_sets,
-                                                                                (
-                                                                                  of_sum,
-                                                                                  (
-                                                                                    of_product,
-                                                                                    (
-                                                                                      of_neg,
-                                                                                      (
-                                                                                        of_path,
-                                                                                        (
-                                                                                          of_or_tail,
-                                                                                          (
-                                                                                            of_and_tail,
-                                                                                            (
-                                                                                              of_rel_tail,
-                                                                                              (
-                                                                                                of_sets_tail,
-                                                                                                (
-                                                                                                  of_sum_tail,
-                                                                                                  (
-                                                                                                    of_product_tail,
-                                                                                                    (
-                                                                                                      of_divisor,
-                                                                                                      (
-                                                                                                        of_path_tail,
-                                                                                                        (
-                                                                                                          of_atom,
-                                                                                                          (
-                                                                                                            of_atom_but_exists,
-                                                                                                            (
-                                                                                                              of_atom_but_both,
-                                                                                                              (
-                                                                                                                of_fields,
-                                                                                                                (
-                                                                                                                  of_more_fields,
-                                                                                                                  (
-                                                                                                                    of_field,
-                                                                                                                    (
-                                                                                                                      of_members,
-                                                                                                                      (
-                                                                                                                        of_more_members,
-                                                                                                                        (
-                                                                                                                          of_whole,
-                                                                                                                          (
-                                                                                                                            of_constant,
-                                                                                                                            (
-                                                                                                                              of_set,
-                                                                                                                              (
-                                                                                                                                of_add,
-                                                                                                                                (
-                                                                                                                                  of_division,
-                                                                                                                                  (of_test, (of_unary, (of_binary, (of_branding, (of_label, tt))))),
-                                                                                                                                ),
-                                                                                                                              ),
-                                                                                                                            ),
-                                                                                                                          ),
-                                                                                                                        ),
-                                                                                                                      ),
-                                                                                                                    ),
-                                                                                                                  ),
-                                                                                                                ),
-                                                                                                              ),
-                                                                                                            ),
-                                                                                                          ),
-                                                                                                        ),
-                                                                                                      ),
-                                                                                                    ),
-                                                                                                  ),
-                                                                                                ),
-                                                                                              ),
-                                                                                            ),
-                                                                                          ),
-                                                                                        ),
-                                                                                      ),
-                                                                                    ),
-                                                                                  ),
-                                                                                ),
-                                                                              ),
-                                                                            ),
-                                                                          ),
-                                                                        ),
-                                                                      ),
-                                                                    ),
-                                                                  ),
-                                                                ),
-                                                              ),
-                                                            ),
-                                                          ),
-                                                        ),
-                                                      ),
-                                                    ),
-                                                  ),
-                                                ),
-                                              ),
-                                            ),
-                                          ),
-                                        ),
-                                      ),
-                                    ),
-                                  ),
-                                ),
-                              ),
-                            ),
-                          ),
-                        ),
-                      ),
-                    ),
-                  ),
-                ),
-              ),
-            ),
-          ),
-        ),
-      ),
-    ),
-  )
+  closed =
+      of_query & of_defines & of_end & of_expr & of_selection & of_sources & of_bindings & of_binding & of_filter &
+      of_order & of_keys & of_key & of_direction & of_q & of_q_but_distinct & of_q_head & of_exists_rest &
+      of_or_but_exists & of_and_but_exists & of_not_but_exists & of_rel_but_exists & of_sets_but_exists &
+      of_sum_but_exists & of_product_but_exists & of_neg_but_exists & of_path_but_exists & of_or_but_both &
+      of_and_but_both & of_not_but_both & of_rel_but_both & of_sets_but_both & of_sum_but_both & of_product_but_both &
+      of_neg_but_both & of_path_but_both & of_and & of_not & of_rel & of_sets & of_sum & of_product & of_neg &
+      of_path & of_or_tail & of_and_tail & of_rel_tail & of_sets_tail & of_sum_tail & of_product_tail & of_divisor &
+      of_path_tail & of_atom & of_atom_but_exists & of_atom_but_both & of_fields & of_more_fields & of_field &
+      of_members & of_more_members & of_whole & of_constant & of_set & of_add & of_division & of_test & of_unary &
+      of_binary & of_branding & of_label & tt

@@ -1,5 +1,5 @@
 -- Each word of the grammar is a word of the table, whose actions make its tree.
-use Rattle.std.proofs.Common.{◌≡◌, ◌⊎◌, inl, inr, ℕ, zero, suc, Bool, true, false, ◌||◌, List, [], ◌∷◌, ◌++◌, map, refl}
+use Rattle.std.proofs.Common.{◌≡◌, ◌⊎◌, inl, inr, ℕ, zero, suc, Bool, true, false, List, [], ◌∷◌, ◌++◌, map, refl}
 use Rattle.std.proofs.Common.{sym, ap, ◌∙◌, subst, eqb, slice_get, Some, None}
 use Rattle.std.specs.Prelude.{ℤ, Option}
 use Rattle.std.proofs.lemmas.Bool.{eqb-true, eq-eqb}
@@ -23,16 +23,16 @@ use Rattle.qc_oql_tree.specs.Kinds.{WHOLES, CONSTANTS, SETS, SUMS, DIVISIONS, TE
 use Rattle.qc_oql_tree.specs.Kinds.{LABELS}
 use Rattle.qc_oql_tree.specs.Lexemes.{kind}
 use Rattle.qc_oql_tree.specs.Operators.{unary_of}
-use Rattle.qc_oql_text.specs.declared.value.Mark.{Mark}
-use Rattle.qc_oql_text.specs.declared.value.Value.TheVariants as value
-use Rattle.qc_oql_text.specs.inner.Actions as actions
-use Rattle.qc_oql_text.specs.inner.Actions.{act}
-use Rattle.qc_oql_text.specs.inner.Table as table
-use Rattle.qc_oql_text.specs.inner.Table.{grammar}
-use Rattle.qc_oql_text.specs.inner.Values.{Values}
+use Rattle.qc_oql_table.specs.declared.value.Mark.{Mark}
+use Rattle.qc_oql_table.specs.declared.value.Value.TheVariants as value
+use Rattle.qc_oql_table.specs.Actions as actions
+use Rattle.qc_oql_table.specs.Actions.{act}
+use Rattle.qc_oql_table.specs.Table as table
+use Rattle.qc_oql_table.specs.Table.{grammar}
+use Rattle.qc_oql_table.specs.Values.{Values}
 use Rattle.qc_grammar.proofs.Walks as walks
 use Rattle.qc_grammar.proofs.Walks.{Walks, done, here, acts, goes}
-use Rattle.qc_oql_text.proofs.Words.{single, PLAIN_UNARIES}
+use Rattle.qc_oql_table.proofs.Words.{single, PLAIN_UNARIES}
 
 -- a level of operators stands in the table as it is, for what doesn't begin with `exists`, and with neither this nor
 -- `distinct`

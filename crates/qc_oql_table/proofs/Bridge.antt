@@ -1,28 +1,29 @@
 -- The grammar and the table say the same.
-use Rattle.std.proofs.Common.{◌≡◌, ◌≤◌, ℕ, List, [], ◌∷◌, length, drop, map, refl, sym, ap, ◌∙◌, subst, arith, Result}
+use Rattle.std.proofs.Common.{◌≡◌, ℕ, List, [], ◌∷◌, length, drop, map, refl, sym, ap, ◌∙◌, subst, arith}
+use Rattle.std.specs.Prelude.{Result, Ok, Err}
 use Rattle.qc_grammar.specs.declared.fault.SyntaxFault.{SyntaxFault}
 use Rattle.qc_grammar.specs.declared.symbol.Event.{Event}
 use Rattle.qc_grammar.specs.declared.symbol.Symbol.TheVariants.{Rule}
-use Rattle.qc_grammar.specs.inner.Derivations.{Derives, nothing}
+use Rattle.qc_grammar.specs.inner.Derivations.{Derives, nothing, Whole}
 use Rattle.qc_grammar.specs.Parsing.{Parses}
+use Rattle.qc_grammar.proofs.Lifted as lifted
 use Rattle.qc_grammar.proofs.Lifted.{map_length}
 use Rattle.qc_lex.specs.declared.token.Lexeme.{Lexeme}
-use Rattle.qc_oql_tree.specs.declared.tree.Oql.{Oql}
-use Rattle.qc_oql_tree.specs.declared.tree.Named.{Named}
 use Rattle.qc_oql_tree.specs.declared.tree.Query as queries
 use Rattle.qc_oql_tree.specs.Grammar as rel
 use Rattle.qc_oql_tree.specs.Lexemes.{kind}
-use Rattle.qc_oql_text.specs.declared.value.Value.TheVariants.{Tree, Entries}
-use Rattle.qc_oql_text.specs.inner.Actions as actions
-use Rattle.qc_oql_text.specs.inner.Actions.{act}
-use Rattle.qc_oql_text.specs.inner.Meaning.{Means}
-use Rattle.qc_oql_text.specs.inner.Table.{grammar}
-use Rattle.qc_oql_text.specs.inner.Values.{Values}
-use Rattle.qc_oql_text.proofs.Closed.{closed}
-use Rattle.qc_oql_text.proofs.Complete.{of_query}
+use Rattle.qc_oql_table.specs.declared.value.Value.TheVariants.{Tree, Entries}
+use Rattle.qc_oql_table.specs.Actions as actions
+use Rattle.qc_oql_table.specs.Actions.{act, made, query_of}
+use Rattle.qc_oql_table.specs.inner.Meaning.{Means}
+use Rattle.qc_oql_table.specs.Table.{grammar}
+use Rattle.qc_oql_table.specs.Values.{Values}
+use Rattle.qc_oql_table.proofs.Closed.{closed}
+use Rattle.qc_oql_table.proofs.Complete.{of_query}
 use Rattle.qc_grammar.proofs.Same as same
 use Rattle.qc_grammar.proofs.Walks as walks
-use Rattle.qc_oql_text.proofs.Words.{Queried, words}
+use Rattle.qc_oql_table.proofs.Samples.{sample, sampled}
+use Rattle.qc_oql_table.proofs.Words.{Queried, words}
 
 module _ (ts : List Lexeme) where
   abbrev K : List ℕ
@@ -58,6 +59,14 @@ module _ (ts : List Lexeme) where
       subst (λ z. rel.Query ts z) (ap actions.query (runs d.events []) ∙ d.same)
       (spelled (walks.run (act ts) d.events []) l)
 
--- the same lists parse to the same queries, or have the same faults
-pub parses : (ts : List Lexeme) (r : Result queries.Query SyntaxFault) → Parses Means ts r → Parses rel.Query ts r
-parses ts r p = same.parses Means rel.Query sound complete ts r p
+-- what is made of the derivation of a list's kinds is the query that the list spells, and where there is none the fault
+-- is the same
+pub parses : (ts : List Lexeme) (r : Result (List Event) SyntaxFault) → Parses (Whole grammar) (map kind ts) r
+    → Parses rel.Query ts (made ts r)
+parses ts (Ok es) p =
+    let q = query_of ts es in
+    same.parses Means rel.Query sound complete ts (Ok q)
+    (lifted.spelled grammar kind sample sampled query_of ts es q p refl)
+parses ts (Err fault) p =
+    same.parses Means rel.Query sound complete ts (Err fault)
+    (lifted.faulted grammar kind sample sampled query_of ts fault p)

@@ -1,10 +1,8 @@
 -- What the words of each rule of the table are in the grammar, and what they make of the stack.
-use Rattle.std.proofs.Common.{◌≡◌, ◌&&◌, ℕ, suc, pred, Bool, true, false, List, [], ◌∷◌, ◌++◌, map, refl, eqb}
-use Rattle.std.proofs.Common.{slice_get, Some}
+use Rattle.std.proofs.Common.{◌≡◌, ℕ, suc, List, [], ◌∷◌, ◌++◌}
 use Rattle.std.specs.Prelude.{Option}
 use Rattle.qc_grammar.specs.declared.symbol.Symbol.{Symbol}
 use Rattle.qc_grammar.specs.declared.symbol.Symbol.TheVariants.{Token}
-use Rattle.qc_oql_tree.specs.Kinds.{among}
 use Rattle.qc_lex.specs.declared.token.Lexeme.{Lexeme}
 use Rattle.qc_oql_tree.specs.declared.tree.Direction.{Direction}
 use Rattle.qc_oql_tree.specs.declared.tree.Filter.{Filter}
@@ -20,10 +18,10 @@ use Rattle.qc_oql_tree.specs.Kinds.{LEFT, RIGHT, UNBRAND, WHOLES, CONSTANTS, SET
 use Rattle.qc_oql_tree.specs.Kinds.{BRANDINGS, LABELS}
 use Rattle.qc_oql_tree.specs.Lexemes.{kind}
 use Rattle.qc_oql_tree.specs.Trees as trees
-use Rattle.qc_oql_text.specs.declared.value.Value.{Value}
-use Rattle.qc_oql_text.specs.declared.value.Value.TheVariants as value
-use Rattle.qc_oql_text.specs.inner.Actions as actions
-use Rattle.qc_oql_text.specs.inner.Values.{Values, rest, the_mark, the_entries, the_keys}
+use Rattle.qc_oql_table.specs.declared.value.Value.{Value}
+use Rattle.qc_oql_table.specs.declared.value.Value.TheVariants as value
+use Rattle.qc_oql_table.specs.Actions as actions
+use Rattle.qc_oql_table.specs.Values.{Values, rest, the_mark, the_entries, the_keys}
 use Rattle.qc_grammar.proofs.Walks.{Kept, AllKept, none, also}
 
 -- a value of a language on top of the stack

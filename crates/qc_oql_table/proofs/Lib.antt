@@ -1,0 +1,6 @@
+mod Bridge
+mod Closed
+mod Complete
+mod Samples
+mod Scanned
+mod Words
