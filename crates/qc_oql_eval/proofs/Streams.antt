@@ -1,25 +1,26 @@
 -- The rows that a condition keeps, where members of the last source are tested before they become rows.
 use Rattle.std.proofs.Common.{◌≡◌, ◌≤◌, ◌+◌, ◌-◌, ℕ, Bool, true, false, cond, List, [], ◌∷◌, ◌++◌, drop, take, length}
-use Rattle.std.proofs.Common.{map}
-use Rattle.std.proofs.Common.{refl, sym, ap, ◌∙◌, arith, get_or}
+use Rattle.std.proofs.Common.{map, refl, sym, ap, ◌∙◌, arith, get_or}
 use Rattle.std.proofs.lemmas.List.{take-append-drop, take_all, drop_more, drop_all}
-use Rattle.std.specs.Prelude.{Option, Some, None, option_map, Result, Err}
+use Rattle.std.specs.Borrow.{Bor}
+use Rattle.std.specs.Prelude.{Option, Some, None, Result, Err}
 use Rattle.qc_data.specs.Kinds.{as_coll}
-use Rattle.qc_data.specs.Outcome.{Mode, Outcome, Why, Value, Halts, Gives, and_then, gather}
+use Rattle.qc_data.specs.Outcome.{Mode, Outcome, Why, Value, Halts, Gives, and_then, gather, why_of}
 use Rattle.qc_data.proofs.Outcomes.{bind_assoc}
 use Rattle.qc_data.specs.declared.halt.Halt.{Halt}
 use Rattle.qc_data.specs.declared.data.Datum.{Datum}
+use Rattle.qc_ops.specs.inner.Columns.{behind}
 use Rattle.qc_types.specs.Schemas.{WorldOf}
 use Rattle.qc_oql_tree.specs.declared.tree.Named.{Named}
 use Rattle.qc_oql_tree.specs.declared.tree.Oql.TheViews.{out-Named, out-Select}
 use Rattle.qc_oql_tree.specs.declared.tree.Select.{Select}
 use Rattle.qc_oql_tree.specs.Bindings.{Bindings, Meaning}
 use Rattle.qc_oql_tree.specs.FormMeanings.{NamedMeaning, truth}
-use Rattle.qc_oql_tree.specs.Meaning.{oql, named, filter}
+use Rattle.qc_oql_tree.specs.Meaning.{oql, named}
 use Rattle.qc_oql_tree.specs.SelectMeaning.{source_items, rows_with, extended, rows_from, rows_of, kept_row, filtered}
 use Rattle.qc_oql_tree.proofs.MeaningForms.{named_is}
 use Rattle.qc_oql_eval.specs.inner.Kept.{kept_member, kept_members}
-use Rattle.qc_oql_eval.specs.inner.Selected.{kept_rows}
+use Rattle.qc_oql_eval.specs.inner.Selected.{condition, kept_rows}
 use Rattle.qc_oql_eval.proofs.Gathering.{joins, gather_append, gather_made, map_append, then_same, then_value}
 use Rattle.qc_oql_eval.proofs.Gathering.{both_from, both_begun, both_more, both_stop, both_stop_first}
 
@@ -65,7 +66,7 @@ unfolding rows_with
 kept_members_rows None name s row xs = refl
 kept_members_rows (Some test) name s row xs =
     gather_made (λ y. (name, y) ∷ row) (λ y. (name, y) ∷ row) (kept_member test name (row ++ s)) (kept_row test s) xs
-    (λ x. kept_member_row test name s row x)
+        (λ x. kept_member_row test name s row x)
 
 -- ---- the last source
 
@@ -79,15 +80,15 @@ rows_last : (sources : List NamedMeaning) (last : NamedMeaning) (s : Bindings) (
 rows_last [] last s rows = then_value (gather (extended last s) rows)
 rows_last (source ∷ sources) last s rows =
     then_same (gather (extended source s) rows) (rows_from (sources ++ last ∷ []) s)
-    (λ rs. and_then (rows_from sources s rs) (gather (extended last s))) (λ rs. rows_last sources last s rs)
+        (λ rs. and_then (rows_from sources s rs) (gather (extended last s))) (λ rs. rows_last sources last s rs)
     ∙ sym (bind_assoc (gather (extended source s) rows) (rows_from sources s) (gather (extended last s)))
 
 module _ (m : Mode) (w : WorldOf) (s : Bindings) where
-  pub kept_begun : (x : Select) (sources : List Named) (last : Named) → (out-Select x).sources ≡ sources ++ last ∷ []
-      → kept_rows m w x s ≡ and_then (rows_of (map (named m w) sources) s)
-      (kept_from (option_map (filter m w) (out-Select x).filter) (named m w last) s [])
+  kept_begun : (x : Select) (sources : List Named) (last : Named) → (out-Select x).sources ≡ sources ++ last ∷ []
+      → kept_rows m w x s
+      ≡ and_then (rows_of (map (named m w) sources) s) (kept_from (condition m w x) (named m w last) s [])
   kept_begun x sources last e =
-      let f : Option Meaning = option_map (filter m w) (out-Select x).filter in
+      let f : Option Meaning = condition m w x in
       let by_all : rows_of (map (named m w) (out-Select x).sources) s
       ≡ rows_of (map (named m w) sources ++ named m w last ∷ []) s =
       ap (λ ss. rows_of ss s) (ap (map (named m w)) e ∙ map_append (named m w) sources (last ∷ [])) in
@@ -101,17 +102,17 @@ module _ (m : Mode) (w : WorldOf) (s : Bindings) where
       (λ rows. both_begun (extended (named m w last) s) (filtered f s) rows))
 
   module _ (f : Option Meaning) (source : Named) (done : List Bindings) (row : Bindings) (later : List Bindings) where
-    kept_no_source : (why : Why) → oql m w (out-Named source).of (row ++ s) ≡ Halts why
+    no_source : (why : Why) → oql m w (out-Named source).of (row ++ s) ≡ Halts why
         → kept_from f (named m w source) s done (row ∷ later) ≡ Halts why
     unfolding source_items
-    kept_no_source why e =
+    no_source why e =
         let stops : extended (named m w source) s row ≡ Halts why = rw (named_is m w source, e) refl in
         both_stop_first (extended (named m w source) s) (filtered f s) done row later why stops
 
-    kept_no_items : (d : Datum) (why : Why) → oql m w (out-Named source).of (row ++ s) ≡ Value d → as_coll d ≡ Halts why
+    no_items : (d : Datum) (why : Why) → oql m w (out-Named source).of (row ++ s) ≡ Value d → as_coll d ≡ Halts why
         → kept_from f (named m w source) s done (row ∷ later) ≡ Halts why
     unfolding source_items
-    kept_no_items d why e a =
+    no_items d why e a =
         let stops : extended (named m w source) s row ≡ Halts why = rw (named_is m w source, e, a) refl in
         both_stop_first (extended (named m w source) s) (filtered f s) done row later why stops
 
@@ -121,17 +122,17 @@ module _ (m : Mode) (w : WorldOf) (s : Bindings) where
       unfolding source_items
       made = rw (named_is m w source, e, a) refl
 
-      pub kept_more : (kept : List Datum) → kept_members f (out-Named source).name (row ++ s) xs ≡ Value kept
+      kept_more : (kept : List Datum) → kept_members f (out-Named source).name (row ++ s) xs ≡ Value kept
           → kept_from f (named m w source) s done (row ∷ later)
           ≡ kept_from f (named m w source) s (done ++ rows_with (out-Named source).name row kept) later
       kept_more kept k =
           let by_rows : filtered f s (rows_with (out-Named source).name row xs)
           ≡ Value (rows_with (out-Named source).name row kept) =
           sym (kept_members_rows f (out-Named source).name s row xs)
-          ∙ ap (λ o. and_then o (λ ks. Value (rows_with (out-Named source).name row ks))) k in
+              ∙ ap (λ o. and_then o (λ ks. Value (rows_with (out-Named source).name row ks))) k in
           both_more (extended (named m w source) s) (filtered f s) (filtered_joined f s) done
-          (rows_with (out-Named source).name row kept) row later
-          (rows_with (out-Named source).name row xs) made by_rows
+              (rows_with (out-Named source).name row kept) row later
+              (rows_with (out-Named source).name row xs) made by_rows
 
       kept_stop : (why : Why) → kept_members f (out-Named source).name (row ++ s) xs ≡ Halts why
           → kept_from f (named m w source) s done (row ∷ later)
@@ -139,75 +140,94 @@ module _ (m : Mode) (w : WorldOf) (s : Bindings) where
       kept_stop why k =
           let by_rows : filtered f s (rows_with (out-Named source).name row xs) ≡ Halts why =
           sym (kept_members_rows f (out-Named source).name s row xs)
-          ∙ ap (λ o. and_then o (λ ks. Value (rows_with (out-Named source).name row ks))) k in
+              ∙ ap (λ o. and_then o (λ ks. Value (rows_with (out-Named source).name row ks))) k in
           both_stop (extended (named m w source) s) (filtered f s) (filtered_joined f s) done row later
-          (rows_with (out-Named source).name row xs) why made by_rows
+              (rows_with (out-Named source).name row xs) why made by_rows
 
-    -- what comes of the condition on the row's members
-    abbrev pub kept_next : Outcome (List Datum) → Outcome (List Bindings)
-    kept_next (Value kept) = kept_from f (named m w source) s (done ++ rows_with (out-Named source).name row kept) later
-    kept_next (Halts why) = and_then (gather (extended (named m w source) s) later) (λ rs. Halts why)
+-- ---- the code's steps
 
-    by_kept : (d : Datum) (xs : List Datum) → oql m w (out-Named source).of (row ++ s) ≡ Value d → as_coll d ≡ Value xs
-        → (o : Outcome (List Datum)) → kept_members f (out-Named source).name (row ++ s) xs ≡ o
-        → kept_from f (named m w source) s done (row ∷ later) ≡ kept_next o
-    by_kept d xs e a (Value kept) k = kept_more d xs e a kept k
-    by_kept d xs e a (Halts why) k = kept_stop d xs e a why k
+module _ (m : Mode) (w : WorldOf) (s : Bindings) (x : Select) (last : Named) where
+  -- what comes of the last source on these rows, behind what was kept before
+  abbrev pub kept_on : List Bindings → List Bindings → Outcome (List Bindings)
+  kept_on done rest = kept_from (condition m w x) (named m w last) s done rest
 
-    by_items : (d : Datum) → oql m w (out-Named source).of (row ++ s) ≡ Value d → (o : Outcome (List Datum))
-        → as_coll d ≡ o
-        → kept_from f (named m w source) s done (row ∷ later)
-        ≡ and_then o (λ xs. kept_next (kept_members f (out-Named source).name (row ++ s) xs))
-    by_items d e (Value xs) a = by_kept d xs e a (kept_members f (out-Named source).name (row ++ s) xs) refl
-    by_items d e (Halts why) a = kept_no_items d why e a
+  -- before the last source
+  module _ (all : List Named) (q : all ≡ (out-Select x).sources) (h : 1 ≤ length all)
+      (l : last ≡ get_or all (length all - 1) last) where
+    begun : kept_rows m w x s ≡ and_then (rows_of (map (named m w) (take (length all - 1) all)) s) (kept_on [])
+    begun =
+        kept_begun m w s x (take (length all - 1) all) last
+        (sym q ∙ last_apart all (length all - 1) last (omega (arith, h)) l)
 
-    by_source : (o : Outcome Datum) → oql m w (out-Named source).of (row ++ s) ≡ o
-        → kept_from f (named m w source) s done (row ∷ later)
-        ≡ and_then o (λ d. and_then (as_coll d)
-        (λ xs. kept_next (kept_members f (out-Named source).name (row ++ s) xs)))
-    by_source (Value d) e = by_items d e (as_coll d) refl
-    by_source (Halts why) e = kept_no_source why e
+    pub earlier_halts : (e : Halt)
+        → Gives {A = List Bindings} (rows_of (map (named m w) (take (length all - 1) all)) s) (Err e)
+        → Gives {A = List Bindings} (kept_rows m w x s) (Err e)
+    earlier_halts e g = λ n. begun ∙ ap (λ o. and_then o (kept_on [])) (g n)
 
-    kept_step : kept_from f (named m w source) s done (row ∷ later)
-        ≡ and_then (oql m w (out-Named source).of (row ++ s))
-        (λ d. and_then (as_coll d) (λ xs. kept_next (kept_members f (out-Named source).name (row ++ s) xs)))
-    kept_step = by_source (oql m w (out-Named source).of (row ++ s)) refl
+    pub kept_first : (rows done rest : List Bindings)
+        → rows_of (map (named m w) (take (length all - 1) all)) s ≡ Value rows → rest ≡ rows → done ≡ []
+        → kept_rows m w x s ≡ kept_on done rest
+    kept_first rows done rest g r d =
+        begun ∙ (ap (λ o. and_then o (kept_on [])) g ∙ (ap (kept_on []) (sym r) ∙ ap (λ ds. kept_on ds rest) (sym d)))
 
-    -- the same of what is left to do where a row is next
-    module _ (k : Outcome (List Bindings)) (rest : List Bindings) (i : k ≡ kept_from f (named m w source) s done rest)
-        (apart : rest ≡ row ∷ later) where
-      pub at_source : k ≡ and_then (oql m w (out-Named source).of (row ++ s))
-          (λ d. and_then (as_coll d) (λ xs. kept_next (kept_members f (out-Named source).name (row ++ s) xs)))
-      at_source = i ∙ (ap (kept_from f (named m w source) s done) apart ∙ kept_step)
+  -- the first row of those that are left, read through two references
+  pub next_row : (done rest : List Bindings) (item row : Bindings) → 1 ≤ length rest → item ≡ get_or rest 0 item
+      → row ≡ item → kept_rows m w x s ≡ kept_on done rest
+      → kept_rows m w x s ≡ kept_on done (row ∷ take (length rest - 1) (drop 1 rest))
+  next_row done rest item row h a r i =
+      i ∙ ap (kept_on done) (first_apart rest item h a ∙ ap (λ z. z ∷ take (length rest - 1) (drop 1 rest)) (sym r))
 
-      pub at_items : (d : Datum) → oql m w (out-Named source).of (row ++ s) ≡ Value d
-          → k ≡ and_then (as_coll d) (λ xs. kept_next (kept_members f (out-Named source).name (row ++ s) xs))
-      at_items d e =
-          at_source ∙ ap (λ o. and_then o
-          (λ d. and_then (as_coll d) (λ xs. kept_next (kept_members f (out-Named source).name (row ++ s) xs)))) e
+  module _ (done : List Bindings) (row : Bindings) (later : List Bindings)
+      (i : kept_rows m w x s ≡ kept_on done (row ∷ later)) where
+    pub source_halts : (e : Halt) → Gives {A = Datum} (oql m w (out-Named last).of (row ++ s)) (Err e)
+        → Gives {A = List Bindings} (kept_rows m w x s) (Err e)
+    source_halts e g = λ n. i ∙ no_source m w s (condition m w x) last done row later (why_of e) (g n)
 
-      pub at_members : (d : Datum) (xs : List Datum) → oql m w (out-Named source).of (row ++ s) ≡ Value d
-          → as_coll d ≡ Value xs
-          → k ≡ kept_next (kept_members f (out-Named source).name (row ++ s) xs)
-      at_members d xs e a =
-          at_items d e ∙ ap (λ o. and_then o (λ xs. kept_next (kept_members f (out-Named source).name (row ++ s) xs))) a
+    pub items_halt : (d : Datum) (e : Halt) → oql m w (out-Named last).of (row ++ s) ≡ Value d
+        → Gives {A = List Datum} (as_coll d) (Err e) → Gives {A = List Bindings} (kept_rows m w x s) (Err e)
+    items_halt d e v g = λ n. i ∙ no_items m w s (condition m w x) last done row later d (why_of e) v (g n)
 
-    -- a later row's source that halts
-    pub next_stops : (why : Why) (o : Outcome (List Datum)) → gather (extended (named m w source) s) later ≡ Halts why
-        → kept_next o ≡ Halts why
-    next_stops why (Value kept) e =
-        ap (λ o. and_then o (λ ys. and_then (filtered f s ys)
-        (λ zs. Value ((done ++ rows_with (out-Named source).name row kept) ++ zs)))) e
-    next_stops why (Halts w) e = ap (λ o. and_then o (λ rs. Halts w)) e
+    module _ (d : Datum) (xs : List Datum) (v : oql m w (out-Named last).of (row ++ s) ≡ Value d)
+        (a : as_coll d ≡ Value xs) where
+      -- a later row's source halts, whatever the condition does
+      stops : (why : Why) (o : Outcome (List Datum))
+          → kept_members (condition m w x) (out-Named last).name (row ++ s) xs ≡ o
+          → gather (extended (named m w last) s) later ≡ Halts why → kept_rows m w x s ≡ Halts why
+      stops why (Value kept) k g =
+          i ∙ (kept_more m w s (condition m w x) last done row later d xs v a kept k
+          ∙ ap (λ o. and_then o (λ ys. and_then (filtered (condition m w x) s ys)
+          (λ zs. Value ((done ++ rows_with (out-Named last).name row kept) ++ zs)))) g)
+      stops why (Halts y) k g =
+          i ∙ (kept_stop m w s (condition m w x) last done row later d xs v a y k
+          ∙ ap (λ o. and_then o (λ rs. Halts y)) g)
 
-    -- the condition, which halts where no later row's source does
-    pub next_halts : (why : Why) (o : Outcome (List Datum)) (rs : List Bindings)
-        → gather (extended (named m w source) s) later ≡ Value rs → o ≡ Halts why → kept_next o ≡ Halts why
-    next_halts why o rs e h = ap kept_next h ∙ ap (λ o. and_then o (λ rs. Halts why)) e
+      pub later_halts : (e : Halt)
+          → Gives {A = List Bindings} (gather (extended (named m w last) s) later) (Err e)
+          → Gives {A = List Bindings} (kept_rows m w x s) (Err e)
+      later_halts e g =
+          λ n. stops (why_of e) (kept_members (condition m w x) (out-Named last).name (row ++ s) xs) refl (g n)
 
--- ---- the code's answer
+      -- the condition halts where no later row's source does
+      pub condition_halts : (e : Halt) (rows : List Bindings)
+          → gather (extended (named m w last) s) later ≡ Value rows
+          → Gives {A = List Datum} (kept_members (condition m w x)
+          (out-Named last).name (row ++ s) xs) (Err e)
+          → Gives {A = List Bindings} (kept_rows m w x s) (Err e)
+      condition_halts e rows r g =
+          λ n. i ∙ (kept_stop m w s (condition m w x) last done row later d xs v a (why_of e) (g n)
+          ∙ ap (λ o. and_then o (λ rs. Halts (why_of e))) r)
+
+      -- the members that are kept become rows
+      pub row_kept : (refs members : List (Bor Datum)) (rows : List Bindings)
+          → kept_members (condition m w x) (out-Named last).name (row ++ s) xs
+          ≡ Value (behind members)
+          → refs ≡ members → rows ≡ done ++ rows_with (out-Named last).name row (behind refs)
+          → kept_rows m w x s ≡ kept_on rows later
+      row_kept refs members rows k r e =
+          i ∙ (kept_more m w s (condition m w x) last done row later d xs v a (behind members) k
+          ∙ ap (λ ds. kept_on ds later)
+          (ap (λ ms. done ++ rows_with (out-Named last).name row (behind ms)) (sym r) ∙ sym e))
 
 -- the answer that an exit hands on
-pub exits : {A : Type 0} (o p : Outcome A) (r : Result A Halt) (e : Halt) → o ≡ p → r ≡ Err e → Gives p (Err e)
-    → Gives o r
-exits o p r e a b h = rw (a, b) h
+pub exits : {A : Type 0} (o : Outcome A) (r : Result A Halt) (e : Halt) → r ≡ Err e → Gives o (Err e) → Gives o r
+exits o r e x h = rw x h

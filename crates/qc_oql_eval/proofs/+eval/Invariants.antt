@@ -1,20 +1,18 @@
 use Rattle.std.proofs.Common.{◌≡◌, ◌∷◌, ◌++◌, drop, length, map}
-use Rattle.std.specs.Prelude.{option_map}
 use Rattle.qc_data.specs.declared.data.Datum.TheVariants.{Rec}
 use Rattle.qc_data.specs.Outcome.{Value, and_then, alone, bits64, each, gather}
 use Rattle.qc_data.proofs.Outcomes.{gather_from}
 use Rattle.qc_ops.specs.inner.Columns.{behind}
 use Rattle.qc_ops.specs.Operands.{bag}
 use Rattle.qc_oql_eval.specs.inner.Scopes.{bindings_of}
-use Rattle.qc_oql_tree.specs.declared.tree.Oql.TheViews.{out-Select}
 use Rattle.qc_oql_tree.specs.FormMeanings.{collected, decided, field_of, record_of, structured, truth}
-use Rattle.qc_oql_tree.specs.Meaning.{filter, key, named, oql}
+use Rattle.qc_oql_tree.specs.Meaning.{key, named, oql}
 use Rattle.qc_oql_eval.specs.inner.Rows.{keyed_rows}
 use Rattle.qc_oql_eval.specs.inner.Kept.{kept_member}
 use Rattle.qc_oql_eval.specs.inner.Selected.{kept_rows}
 use Rattle.qc_oql_tree.specs.SelectMeaning.{extended, key_values, keyed, rows_from, rows_of}
 use Rattle.qc_oql_eval.proofs.Deciding.{decided_from}
-use Rattle.qc_oql_eval.proofs.Streams.{kept_from}
+use Rattle.qc_oql_eval.proofs.Streams.{kept_on}
 use Rattle.qc_oql_eval.proofs.+eval.Given as goal
 
 abbrev pub invariant-quantifying::decided-loop-item : goal.invariant-quantifying::decided-loop-item
@@ -66,8 +64,7 @@ invariant-selecting::values_of-loop-row l =
 abbrev pub invariant-keeping::kept_rows-loop-rest : goal.invariant-keeping::kept_rows-loop-rest
 invariant-keeping::kept_rows-loop-rest l =
     kept_rows bits64 l.world l.select (bindings_of l.scope)
-    ≡ kept_from (option_map (filter bits64 l.world) (out-Select l.select).filter) (named bits64 l.world l.last)
-    (bindings_of l.scope) l.kept l.rest
+    ≡ kept_on bits64 l.world (bindings_of l.scope) l.select l.last l.kept l.rest
 
 abbrev pub decreases-keeping::kept_rows-loop-rest : goal.decreases-keeping::kept_rows-loop-rest
 decreases-keeping::kept_rows-loop-rest l = length l.rest
