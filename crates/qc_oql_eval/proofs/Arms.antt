@@ -70,7 +70,7 @@ select_arm m w s x at select r e h =
     ap (λ f. f s) (oql-Select m w at select ∙ select_is m w select) in
     let by_kept : oql m w (tree.Select at select) s ≡ and_then (kept_rows m w select s) (of_kept m w select s) =
     by_form ∙ sym (bind_assoc (rows_of (map (named m w) (out-Select select).sources) s)
-        (filtered (option_map (filter m w) (out-Select select).filter) s) (of_kept m w select s)) in
+    (filtered (option_map (filter m w) (out-Select select).filter) s) (of_kept m w select s)) in
     subst (λ o. Gives o r) (sym (ap (λ z. oql m w z s) e ∙ by_kept)) h
 
 -- the values of a select, by the order of the rows, each read through a slice

@@ -26,13 +26,13 @@ use Rattle.qc_oql_eval.proofs.Gathering.{both_from, both_begun, both_more, both_
 
 -- ---- the first and the last member of a list
 
-pub first_apart : {A : Type 0} (xs : List A) (x : A) → 1 ≤ length xs → x ≡ get_or xs 0 x
+first_apart : {A : Type 0} (xs : List A) (x : A) → 1 ≤ length xs → x ≡ get_or xs 0 x
     → xs ≡ x ∷ take (length xs - 1) (drop 1 xs)
 first_apart [] x h e = absurd (omega (arith, h))
 first_apart (y ∷ ys) x h e =
     ap (λ z. z ∷ ys) (sym e) ∙ ap (λ zs. x ∷ zs) (sym (take_all (length (y ∷ ys) - 1) ys (omega arith)))
 
-pub last_apart : {A : Type 0} (xs : List A) (i : ℕ) (x : A) → length xs ≡ i + 1 → x ≡ get_or xs i x
+last_apart : {A : Type 0} (xs : List A) (i : ℕ) (x : A) → length xs ≡ i + 1 → x ≡ get_or xs i x
     → xs ≡ take i xs ++ x ∷ []
 last_apart xs i x h e =
     sym (take-append-drop i xs)
@@ -66,7 +66,7 @@ unfolding rows_with
 kept_members_rows None name s row xs = refl
 kept_members_rows (Some test) name s row xs =
     gather_made (λ y. (name, y) ∷ row) (λ y. (name, y) ∷ row) (kept_member test name (row ++ s)) (kept_row test s) xs
-        (λ x. kept_member_row test name s row x)
+    (λ x. kept_member_row test name s row x)
 
 -- ---- the last source
 
@@ -80,7 +80,7 @@ rows_last : (sources : List NamedMeaning) (last : NamedMeaning) (s : Bindings) (
 rows_last [] last s rows = then_value (gather (extended last s) rows)
 rows_last (source ∷ sources) last s rows =
     then_same (gather (extended source s) rows) (rows_from (sources ++ last ∷ []) s)
-        (λ rs. and_then (rows_from sources s rs) (gather (extended last s))) (λ rs. rows_last sources last s rs)
+    (λ rs. and_then (rows_from sources s rs) (gather (extended last s))) (λ rs. rows_last sources last s rs)
     ∙ sym (bind_assoc (gather (extended source s) rows) (rows_from sources s) (gather (extended last s)))
 
 module _ (m : Mode) (w : WorldOf) (s : Bindings) where
@@ -129,10 +129,10 @@ module _ (m : Mode) (w : WorldOf) (s : Bindings) where
           let by_rows : filtered f s (rows_with (out-Named source).name row xs)
           ≡ Value (rows_with (out-Named source).name row kept) =
           sym (kept_members_rows f (out-Named source).name s row xs)
-              ∙ ap (λ o. and_then o (λ ks. Value (rows_with (out-Named source).name row ks))) k in
+          ∙ ap (λ o. and_then o (λ ks. Value (rows_with (out-Named source).name row ks))) k in
           both_more (extended (named m w source) s) (filtered f s) (filtered_joined f s) done
-              (rows_with (out-Named source).name row kept) row later
-              (rows_with (out-Named source).name row xs) made by_rows
+          (rows_with (out-Named source).name row kept) row later
+          (rows_with (out-Named source).name row xs) made by_rows
 
       kept_stop : (why : Why) → kept_members f (out-Named source).name (row ++ s) xs ≡ Halts why
           → kept_from f (named m w source) s done (row ∷ later)
@@ -140,9 +140,9 @@ module _ (m : Mode) (w : WorldOf) (s : Bindings) where
       kept_stop why k =
           let by_rows : filtered f s (rows_with (out-Named source).name row xs) ≡ Halts why =
           sym (kept_members_rows f (out-Named source).name s row xs)
-              ∙ ap (λ o. and_then o (λ ks. Value (rows_with (out-Named source).name row ks))) k in
+          ∙ ap (λ o. and_then o (λ ks. Value (rows_with (out-Named source).name row ks))) k in
           both_stop (extended (named m w source) s) (filtered f s) (filtered_joined f s) done row later
-              (rows_with (out-Named source).name row xs) why made by_rows
+          (rows_with (out-Named source).name row xs) why made by_rows
 
 -- ---- the code's steps
 

@@ -141,8 +141,8 @@ fn kept_member<'a>(
     name: &Chars,
     member: &'a Datum,
 ) -> Result<Option<&'a Datum>, Halt>
-    ensures { GivesKept (kept_member (meaning.oql bits64 world.now test.now) name.now (bindings_of scope.now) member.now)
-        result }
+    ensures { GivesKept
+        (kept_member (meaning.oql bits64 world.now test.now) name.now (bindings_of scope.now) member.now) result }
 {
     if member_truth(alloc, world, scope, test, name, member)? {
         Ok(Some(member))

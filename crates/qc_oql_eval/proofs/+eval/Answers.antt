@@ -49,8 +49,8 @@ expression::outcome-returns-in-Binary t c =
     let is : c.args.of.now ≡ tree.Binary c.in-Binary.field-0 c.in-Binary.operator c.get-in-Binary.result.now
     c.get-in-None.result.now = search (rules, layers) in
     or_else_arm bits64 c.args.world.now (bindings_of c.args.scope.now) c.args.of.now c.in-Binary.field-0
-        c.in-Binary.operator c.get-in-Binary.result.now c.get-in-None.result.now c.in_ok-left-in-Binary.left
-        c.or_else.result is c.in-None.ensures c.in_ok-left-in-Binary.ensures c.or_else.ensures
+    c.in-Binary.operator c.get-in-Binary.result.now c.get-in-None.result.now c.in_ok-left-in-Binary.left
+    c.or_else.result is c.in-None.ensures c.in_ok-left-in-Binary.ensures c.or_else.ensures
 
 pub expression::outcome-returns-in_err-kept-in-Select : goal.expression::outcome-returns-in_err-kept-in-Select
 expression::outcome-returns-in_err-kept-in-Select t c =
