@@ -1,5 +1,5 @@
 -- Keys one after another are keys by their places.
-use Rattle.std.proofs.Common.{◌≡◌, ℕ, zero, suc, List, [], ◌∷◌, drop, map, refl, ap}
+use Rattle.std.proofs.Common.{◌≡◌, ℕ, zero, suc, List, [], ◌∷◌, drop, map, refl}
 use Rattle.qc_data.specs.declared.data.Datum.{Datum}
 use Rattle.qc_oql_tree.specs.declared.tree.Direction.{Direction}
 use Rattle.qc_oql_tree.specs.SelectMeaning.{KeyedRow, first_value, later_values, are_sortable, keys_cmp}

@@ -1,7 +1,9 @@
 pub mod Arms
 pub mod Columns
 pub mod Deciding
+pub mod Gathering
 pub mod KeyOrder
 pub mod Keys
 pub mod Lookups
 pub mod Recording
+pub mod Streams

@@ -1,5 +1,6 @@
 pub mod Columns
 pub mod Held
+pub mod Kept
 pub mod Rows
 pub mod Scopes
 pub mod Selected

@@ -10,6 +10,7 @@ ghost use Rattle.qc_oql_tree.specs.Meaning as meaning;
 ghost use Rattle.qc_oql_tree.specs.OperatorMeanings.{after, branded, divided, one_value, or_else_of};
 ghost use Rattle.qc_oql_tree.specs.inner.Pairings.{paired};
 
+use crate::keeping::kept_rows;
 use crate::operands::{bool_of, name_of};
 use crate::operators::{branded, divided, field, likeness, one_value, paired};
 use crate::paths::{Held, place_of};
@@ -75,7 +76,11 @@ pub(crate) fn outcome(alloc: Global, world: &World, scope: &Scope, of: &Oql) -> 
                 members.get(),
             )
         }
-        Oql::Select(_, select) => selected(alloc, world, scope, select.get()),
+        Oql::Select(_, select) => {
+            let select = select.get();
+            let kept = kept_rows(alloc, world, scope, select)?;
+            selected(alloc, world, scope, select, kept)
+        }
     }
 }
 
@@ -166,8 +171,8 @@ fn with_left(
     ensures { Gives (and_then (meaning.oql bits64 world.now right.now (bindings_of scope.now))
         (λ y. paired bits64 pairing left.now y)) result }
 {
-    let right = outcome(alloc, world, scope, right)?;
-    paired(alloc, world.classes(), pairing, left, &right)
+    let right = operand(alloc, &*world, &*scope, right)?;
+    paired(alloc, world.classes(), pairing, left, right.get())
 }
 
 // The content of a left value, or else the value of the other operand.

@@ -2,6 +2,7 @@
 #![tactic(auto)]
 
 mod expression;
+mod keeping;
 mod operands;
 mod operators;
 mod ordering;

@@ -68,7 +68,7 @@ fn decided(
 
 // The truth value of a condition on a member.
 #[cycle(eval)]
-fn member_truth(
+pub(crate) fn member_truth(
     alloc: Global,
     world: &World,
     scope: &Scope,

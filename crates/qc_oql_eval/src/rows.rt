@@ -23,10 +23,10 @@ pub(crate) fn spread(
     alloc: Global,
     rows: &mut Rows,
     name: &Chars,
-    members: &[Datum],
+    members: &[&Datum],
     row: &[(Chars, Datum)],
 ) -> Result<(), Memory>
-    ensures { OnOk result (rows.new ≡ rows.old ++ rows_with name.now row.now members.now) }
+    ensures { OnOk result (rows.new ≡ rows.old ++ rows_with name.now row.now (behind members.now)) }
 {
     for member in members {
         rows.add(bound(alloc, name, member, row)?)?;
@@ -46,13 +46,13 @@ fn bound(alloc: Global, name: &Chars, value: &Datum, row: &[(Chars, Datum)]) -> 
     Ok(made)
 }
 
-// References to all rows.
-pub(crate) fn all_rows(alloc: Global, rows: &[Row]) -> Result<Vec<&Row>, Memory>
-    ensures { IfOk result (λ made. behind made.items ≡ rows.now) }
+// References to all items.
+pub(crate) fn references<T>(alloc: Global, items: &[T]) -> Result<Vec<&T>, Memory>
+    ensures { IfOk result (λ made. behind made.items ≡ items.now) }
 {
     let mut all = Vec::new(alloc);
-    for row in rows {
-        all.push(row)?;
+    for item in items {
+        all.push(item)?;
     }
     Ok(all)
 }

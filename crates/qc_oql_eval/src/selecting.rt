@@ -1,43 +1,47 @@
-// The outcome of selects in 64 bits: rows, those that are kept, their order, and their values.
+// The outcome of selects in 64 bits: rows, the order of those that are kept, and their values.
 ghost use Rattle.std.specs.Prelude.{◌++◌, map, option_map};
 ghost use Rattle.qc_data.specs.Outcome.{bits64, each, gather, Gives};
 ghost use Rattle.qc_ops.specs.inner.Columns.{behind, GivesRefs};
 ghost use Rattle.qc_oql_eval.specs.inner.Scopes.{bindings_of};
-ghost use Rattle.qc_oql_eval.specs.inner.Selected.{by_parts};
+ghost use Rattle.qc_oql_eval.specs.inner.Selected.{of_kept};
 ghost use Rattle.qc_oql_tree.specs.Meaning as meaning;
-ghost use Rattle.qc_oql_eval.specs.inner.Rows.{GivesKept, GivesKeyed, GivesOneKeyed};
+ghost use Rattle.qc_oql_eval.specs.inner.Rows.{GivesKeyed, GivesOneKeyed};
 ghost use Rattle.qc_oql_tree.specs.SelectMeaning as selecting;
 
-use crate::expression::{outcome, truth};
+use crate::expression::outcome;
 use crate::operators::distinct_if;
 use crate::ordering::{Keyed, in_order};
-use crate::rows::{all_rows, only_row, spread};
+use crate::rows::{only_row, references, spread};
 use crate::scope::{Row, Rows, Scope};
 use qc_data::{Datum, Halt, Items};
-use qc_oql_tree::{Filter, Key, Named, Oql, Order, Select};
+use qc_oql_tree::{Key, Named, Oql, Order, Select};
 use qc_types::World;
 use std::alloc::Global;
 
-// The values of a select: of its rows, those that the condition keeps, in order.
+// The values of a select, by the rows that its condition keeps: in order, and with `distinct` the first occurrences.
 #[cycle(eval)]
 pub(crate) fn selected(
     alloc: Global,
     world: &World,
     scope: &Scope,
     select: &Select,
+    kept: Rows,
 ) -> Result<Datum, Halt>
-    ensures { Gives (by_parts bits64 world.now select.now (bindings_of scope.now)) result }
+    ensures { Gives (of_kept bits64 world.now select.now (bindings_of scope.now) kept) result }
 {
-    let rows = rows_of(alloc, world, scope, select.sources.as_slice())?;
-    let kept = filtered(alloc, world, scope, &select.filter, rows.as_slice())?;
-    let sorted = ordered(alloc, world, scope, &select.order, kept)?;
+    let sorted = ordered(alloc, world, scope, &select.order, kept.as_slice())?;
     let values = values_of(alloc, world, scope, &select.value, sorted.as_slice())?;
     distinct_if(alloc, world.classes(), select.distinct, values)
 }
 
 // All rows of the sources, the first source outermost.
 #[cycle(eval)]
-fn rows_of(alloc: Global, world: &World, scope: &Scope, sources: &[Named]) -> Result<Rows, Halt>
+pub(crate) fn rows_of(
+    alloc: Global,
+    world: &World,
+    scope: &Scope,
+    sources: &[Named],
+) -> Result<Rows, Halt>
     ensures { Gives
         (selecting.rows_of (map (meaning.named bits64 world.now) sources.now) (bindings_of scope.now)) result }
 {
@@ -51,7 +55,7 @@ fn rows_of(alloc: Global, world: &World, scope: &Scope, sources: &[Named]) -> Re
 // The rows with a source's name bound to each of its members.
 #[cycle(eval)]
 #[tactic(auto, using(qc_data::proofs::Outcomes::gather_is, qc_oql_tree::proofs::MeaningForms::named_name))]
-fn extended(
+pub(crate) fn extended(
     alloc: Global,
     world: &World,
     scope: &Scope,
@@ -65,11 +69,12 @@ fn extended(
     let mut all = Rows::new(alloc);
     for row in rows {
         let items = source_items(alloc, world, scope, source, row)?;
+        let members = references(alloc, items.as_slice())?;
         spread(
             alloc,
             &mut all,
             &source.name,
-            items.as_slice(),
+            members.as_slice(),
             row.as_slice(),
         )?;
     }
@@ -115,71 +120,6 @@ fn source_value(
     )
 }
 
-// The rows that the condition keeps, if there is one.
-#[cycle(eval)]
-#[tactic(auto, using(qc_oql_tree::proofs::MeaningForms::filter_is))]
-fn filtered<'a>(
-    alloc: Global,
-    world: &World,
-    scope: &Scope,
-    filter: &Option<Filter>,
-    rows: &'a [Row],
-) -> Result<Vec<&'a Row>, Halt>
-    ensures { GivesRefs
-        (selecting.filtered (option_map (meaning.filter bits64 world.now) filter.now) (bindings_of scope.now) rows.now)
-        result }
-{
-    match filter {
-        None => Ok(all_rows(alloc, rows)?),
-        Some(filter) => kept(alloc, world, scope, &filter.test, rows),
-    }
-}
-
-// The rows on which the condition is true.
-#[cycle(eval)]
-#[tactic(auto, using(qc_data::proofs::Outcomes::gather_is))]
-fn kept<'a>(
-    alloc: Global,
-    world: &World,
-    scope: &Scope,
-    test: &Oql,
-    rows: &'a [Row],
-) -> Result<Vec<&'a Row>, Halt>
-    ensures { GivesRefs
-        (gather (selecting.kept_row (meaning.oql bits64 world.now test.now) (bindings_of scope.now)) rows.now) result }
-{
-    let mut kept = Vec::new(alloc);
-    for row in rows {
-        if let Some(row) = kept_row(alloc, world, scope, test, row)? {
-            match kept.push(row) {
-                Ok(()) => {}
-                Err(_) => return Err(Halt::Memory),
-            }
-        }
-    }
-    Ok(kept)
-}
-
-// The row, if the condition is true on it.
-#[cycle(eval)]
-#[tactic(auto, unfolding(qc_oql_tree::specs::SelectMeaning::kept_row))]
-fn kept_row<'a>(
-    alloc: Global,
-    world: &World,
-    scope: &Scope,
-    test: &Oql,
-    row: &'a Row,
-) -> Result<Option<&'a Row>, Halt>
-    ensures { GivesKept
-        (selecting.kept_row (meaning.oql bits64 world.now test.now) (bindings_of scope.now) row.now) result }
-{
-    if truth(alloc, world, &Scope::Row(row.as_slice(), &*scope), test)? {
-        Ok(Some(row))
-    } else {
-        Ok(None)
-    }
-}
-
 // The rows in the order of the keys, if there are any.
 #[cycle(eval)]
 #[tactic(auto, using(qc_oql_tree::proofs::MeaningForms::order_is))]
@@ -188,15 +128,15 @@ fn ordered<'a>(
     world: &World,
     scope: &Scope,
     order: &Option<Order>,
-    rows: Vec<&'a Row>,
+    rows: &'a [Row],
 ) -> Result<Vec<&'a Row>, Halt>
     ensures { GivesRefs
-        (selecting.ordered (option_map (meaning.order bits64 world.now) order.now) (bindings_of scope.now)
-        (behind rows.entry.items)) result }
+        (selecting.ordered (option_map (meaning.order bits64 world.now) order.now) (bindings_of scope.now) rows.now)
+        result }
 {
     match order {
-        None => Ok(rows),
-        Some(order) => ordered_by(alloc, world, scope, order.keys.as_slice(), rows.as_slice()),
+        None => Ok(references(alloc, rows)?),
+        Some(order) => ordered_by(alloc, world, scope, order.keys.as_slice(), rows),
     }
 }
 
@@ -208,11 +148,10 @@ fn ordered_by<'a>(
     world: &World,
     scope: &Scope,
     keys: &[Key],
-    rows: &[&'a Row],
+    rows: &'a [Row],
 ) -> Result<Vec<&'a Row>, Halt>
     ensures { GivesRefs
-        (selecting.ordered_by (map (meaning.key bits64 world.now) keys.now) (bindings_of scope.now) (behind rows.now))
-        result }
+        (selecting.ordered_by (map (meaning.key bits64 world.now) keys.now) (bindings_of scope.now) rows.now) result }
 {
     let keyed = keyed_rows(alloc, world, scope, keys, rows)?;
     in_order(alloc, keys, keyed)
@@ -226,11 +165,10 @@ fn keyed_rows<'a>(
     world: &World,
     scope: &Scope,
     keys: &[Key],
-    rows: &[&'a Row],
+    rows: &'a [Row],
 ) -> Result<Vec<Keyed<'a>>, Halt>
     ensures { GivesKeyed
-        (each (selecting.keyed (map (meaning.key bits64 world.now) keys.now) (bindings_of scope.now)) (behind rows.now))
-        result }
+        (each (selecting.keyed (map (meaning.key bits64 world.now) keys.now) (bindings_of scope.now)) rows.now) result }
 {
     let mut all = Vec::new(alloc);
     for row in rows {

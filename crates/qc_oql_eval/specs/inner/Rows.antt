@@ -1,6 +1,5 @@
 -- Rows behind references, as private functions answer them.
-use Rattle.std.specs.Prelude.{◌≡◌, ◌≢◌, List, [], ◌∷◌, map, Option, Some, None, Result, Ok, Err, Vec}
-use Rattle.std.specs.Borrow.{Bor}
+use Rattle.std.specs.Prelude.{◌≡◌, ◌≢◌, List, map, Result, Ok, Err, Vec}
 use Rattle.std.specs.declared.alloc.Global.{Global}
 use Rattle.qc_data.specs.Outcome.{Outcome, Value, Halts, why_of}
 use Rattle.qc_data.specs.declared.halt.Halt.{Halt}
@@ -8,7 +7,6 @@ use Rattle.qc_data.specs.declared.halt.Halt.TheVariants as halt
 use Rattle.qc_oql_tree.specs.declared.tree.Direction.{Direction}
 use Rattle.qc_oql_tree.specs.declared.tree.Key.{Key}
 use Rattle.qc_oql_tree.specs.declared.tree.Oql.TheViews.{out-Key}
-use Rattle.qc_oql_tree.specs.Bindings.{Bindings}
 use Rattle.qc_oql_tree.specs.SelectMeaning.{KeyedRow}
 use Rattle.qc_oql_eval.specs.declared.ordering.Keyed.{Keyed}
 
@@ -29,9 +27,3 @@ GivesKeyed o (Err e) = e ≢ halt.Memory → o ≡ Halts (why_of e)
 abbrev pub GivesOneKeyed : Outcome KeyedRow → Result Keyed Halt → Type 0
 GivesOneKeyed o (Ok v) = o ≡ Value (v.keys, v.row.now)
 GivesOneKeyed o (Err e) = e ≢ halt.Memory → o ≡ Halts (why_of e)
-
--- the row alone, or none
-abbrev pub GivesKept : Outcome (List Bindings) → Result (Option (Bor Bindings)) Halt → Type 0
-GivesKept o (Ok None) = o ≡ Value []
-GivesKept o (Ok (Some row)) = o ≡ Value (row.now ∷ [])
-GivesKept o (Err e) = e ≢ halt.Memory → o ≡ Halts (why_of e)
