@@ -25,7 +25,7 @@ use Rattle.qc_oql_tree.specs.declared.tree.Quantifier.{Quantifier}
 use Rattle.qc_oql_tree.specs.declared.tree.Unary.{Unary}
 use Rattle.qc_oql_tree.specs.FormTypings.{Types, Typing, NamedTyping, FilterTyping, OrderTyping, type_of, type_after}
 use Rattle.qc_oql_tree.specs.FormTypings.{type_of_both, matched_type, chosen_type, quantified_type, collected_type}
-use Rattle.qc_oql_tree.specs.FormTypings.{structured_type, selected_type}
+use Rattle.qc_oql_tree.specs.FormTypings.{structured_type, selected_type, type_beside}
 use Rattle.qc_oql_tree.specs.OperatorTypes.{constant_type, one_type, two_type, divided_type, field_type, branded_type}
 use Rattle.qc_oql_tree.specs.Typing.{form_type, filter_typing, key_typing, named_typing, order_typing, select_typing}
 use Rattle.qc_oql_tree.specs.Typing.{oql_type, filter_type, key_type, named_type, order_type, select_type}
@@ -101,8 +101,10 @@ module _ (c : SchemaOf) where
 
   -- ---- the structs of trees
 
-  pub named_is : (n : Named) → named_type c n
-      ≡ record { at = (out-Named n).at; name = (out-Named n).name; of = oql_type c (out-Named n).of }
+  pub named_is : (n : Named) → named_type c n ≡ record {
+      at = (out-Named n).at;
+      name = (out-Named n).name;
+      of = type_beside (out-Named n).at (out-Named n).name (oql_type c (out-Named n).of) }
   named_is n =
       fold_out-Named Typing FilterTyping Typing NamedTyping OrderTyping Typing
       (form_type c) filter_typing key_typing named_typing order_typing (select_typing c) n

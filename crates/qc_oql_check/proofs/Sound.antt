@@ -1,6 +1,7 @@
 -- The type of a query is the type of its value, in each world of the schema.
 use Rattle.std.proofs.Common.{◌≡◌, Bool, List, [], ◌∷◌, map, IsTrue, refl, sym, subst}
 use Rattle.std.specs.Prelude.{Option, Some, None, Ok, option_map}
+use Rattle.qc_containers.specs.Name.{is_name}
 use Rattle.qc_data.specs.Outcome.{Mode, any_size}
 use Rattle.qc_data.specs.declared.data.Datum.{Datum}
 use Rattle.qc_types.specs.declared.ty.Ty.{Ty}
@@ -35,11 +36,11 @@ use Rattle.qc_oql_tree.specs.Meaning.{form, filter_form, key_form, named_form, o
 use Rattle.qc_oql_tree.specs.Meaning.{key, named, order, select, query}
 use Rattle.qc_oql_tree.proofs.MeaningForms.{select_roll}
 use Rattle.qc_oql_tree.proofs.MeaningLaws.{agrees_query}
-use Rattle.qc_oql_tree.specs.FormTypings.{Typing, NamedTyping, FilterTyping, OrderTyping, selected_type}
+use Rattle.qc_oql_tree.specs.FormTypings.{Typing, NamedTyping, FilterTyping, OrderTyping, selected_type, type_beside}
 use Rattle.qc_oql_tree.specs.OperatorTypes.{one_type, divided_type, field_type, branded_type}
 use Rattle.qc_oql_tree.specs.Typing.{form_type, filter_typing, key_typing, named_typing, order_typing, select_typing}
 use Rattle.qc_oql_tree.specs.Typing.{oql_type, filter_type, key_type, named_type, order_type, select_type, query_type}
-use Rattle.qc_oql_check.proofs.Checked.{Checked, Zip, checked_at}
+use Rattle.qc_oql_check.proofs.Checked.{Checked, Zip, checked_at, checked_need}
 use Rattle.qc_oql_check.proofs.Scopes.{Sound, SoundF, SoundK, SoundN, SoundO, sound_name}
 use Rattle.qc_oql_check.proofs.FormsSound.{branded_typed, constant_typed, divided_typed, field_typed, like_typed}
 use Rattle.qc_oql_check.proofs.FormsSound.{one_typed, sound_after, sound_chosen, sound_collected, sound_matched}
@@ -184,13 +185,16 @@ module _ (schema : SchemaOf) (good : IsTrue (good_classes schema.classes)) (d : 
   of_named : (x : Named-F Oql Filter Key Named Order Select) → OfOql x.of → OfNamed (roll-Named x)
   of_named x h =
       let typing : ◌≡◌ {A = NamedTyping} (named_type schema (roll-Named x))
-      (record { at = x.at; name = x.name; of = oql_type schema x.of }) = fold-roll-Named Typing FilterTyping Typing
-      NamedTyping OrderTyping Typing (form_type schema) filter_typing key_typing named_typing order_typing
-      (select_typing schema) x in
+      (record { at = x.at; name = x.name; of = type_beside x.at x.name (oql_type schema x.of) }) =
+      fold-roll-Named Typing FilterTyping Typing NamedTyping OrderTyping Typing
+      (form_type schema) filter_typing key_typing named_typing order_typing (select_typing schema) x in
       let meaning : named m w (roll-Named x) ≡ (x.name, oql m w x.of) =
       fold-roll-Named Meaning Meaning KeyMeaning NamedMeaning (List KeyMeaning) Meaning
       (form m w) filter_form key_form named_form order_form select_form x in
-      rw (typing, meaning) (refl, h)
+      let beside : Sound c m (type_beside x.at x.name (oql_type schema x.of)) (oql m w x.of) =
+      λ s e i. checked_need m (HasType c) x.at (is_name x.name) (λ done. oql_type schema x.of e) (oql m w x.of s)
+      (λ named. h s e i) in
+      rw (typing, meaning) (refl, beside)
 
   of_order : (x : Order-F Oql Filter Key Named Order Select)
       → Zip (SoundK c m) (map (key_type schema) x.keys) (map (key m w) x.keys) → OfOrder (roll-Order x)

@@ -19,7 +19,7 @@ use crate::operators::{branded_type, divided_type, field_type, like_type, one_ty
 use crate::parts::{bool_when, bound_by, coll_of, constant_type, is_atom, join_all, sides_of};
 use crate::record::{TypedField, row_of};
 use crate::scope::{Row, Scope, name_type};
-use qc_containers::{Chars, List};
+use qc_containers::{Chars, List, is_name};
 use qc_oql_tree::{Binary, Branding, Division, Filter, Key, Named, Oql, Order, Select, Unary};
 use qc_types::{Classes, Schema, Ty, Width, copy_ty, join, subtype};
 use qc_typing::TypeFault;
@@ -274,6 +274,21 @@ fn branches(
     or_fault(at, join(alloc, classes, first, second)?)
 }
 
+// An expression beside a name, which must be a name.
+#[cycle(typing)]
+#[tactic(auto, using(crate::proofs::Forms::named_is))]
+pub(crate) fn type_beside(
+    alloc: Global,
+    schema: &Schema,
+    scope: &Scope,
+    named: &Named,
+) -> Result<Ty, TypeFault>
+    ensures { Checks ((typing.named_type schema.now named.now).of (types_of scope.now)) result }
+{
+    need(named.at, is_name(named.name.as_str()))?;
+    type_of(alloc, schema, scope, &named.of)
+}
+
 // A body with its name bound.
 #[cycle(typing)]
 #[tactic(auto, using(crate::proofs::Forms::named_is))]
@@ -287,11 +302,11 @@ fn bound(
     ensures { Checks ((typing.named_type schema.now body.now).of
         (((typing.named_type schema.now body.now).name, ty.now) ∷ types_of scope.now)) result }
 {
-    type_of(
+    type_beside(
         alloc,
         schema,
         &Scope::Bind(&body.name, &*ty, &*scope),
-        &body.of,
+        body,
     )
 }
 
@@ -306,7 +321,7 @@ fn source_type(
 ) -> Result<Ty, TypeFault>
     ensures { Checks (form.source_type (typing.named_type schema.now source.now) (types_of scope.now)) result }
 {
-    let made = type_of(alloc, schema, scope, &source.of)?;
+    let made = type_beside(alloc, schema, scope, source)?;
     match bound_by(&made) {
         Some(member) => Ok(copy_ty(alloc, member)?),
         None => Err(TypeFault::BadType { at: source.at }),
@@ -401,7 +416,7 @@ fn typed_fields<'a>(
 {
     let mut typed = Vec::new(alloc);
     for field in fields {
-        let of = type_of(alloc, schema, scope, &field.of)?;
+        let of = type_beside(alloc, schema, scope, field)?;
         let made = TypedField {
             at: field.at,
             label: &field.name,

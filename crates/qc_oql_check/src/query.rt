@@ -5,7 +5,7 @@ ghost use Rattle.qc_typing.specs.Checking.{Checks};
 ghost use Rattle.qc_oql_check.specs.inner.Scopes.{types_of};
 ghost use Rattle.qc_oql_tree.specs.Typing as typing;
 
-use crate::expression::type_of;
+use crate::expression::{type_beside, type_of};
 use crate::scope::Scope;
 use qc_oql_tree::{Named, Oql, Query};
 use qc_types::{Classes, Schema, Ty};
@@ -47,7 +47,7 @@ fn defined(
     match defines {
         [] => type_of(alloc, schema, scope, body),
         [first, rest @ ..] => {
-            let of = type_of(alloc, schema, scope, &first.of)?;
+            let of = type_beside(alloc, schema, scope, first)?;
             defined(
                 alloc,
                 schema,

@@ -2,6 +2,7 @@
 -- of the
 -- text, but a condition on which a binding rests is checked before what is bound.
 use Rattle.std.specs.Prelude.{ℕ, List, [], ◌∷◌, Option, Some, None, Result, Ok, option_map}
+use Rattle.qc_containers.specs.Name.{is_name}
 use Rattle.qc_containers.specs.Pairs.{lookup}
 use Rattle.qc_types.specs.declared.ty.Width.TheVariants.{Exact}
 use Rattle.qc_types.specs.declared.ty.Ty.{Ty}
@@ -29,6 +30,10 @@ pub record NamedTyping : Type 0 where
   pub at : ℕ
   pub name : List ℕ
   pub of : Typing
+
+-- an expression beside a text, which must be a name
+abbrev pub type_beside : ℕ → List ℕ → Typing → Typing
+type_beside at name of s = and_check (need at (is_name name)) (λ done. of s)
 
 -- a condition's typing, and the place of `where`
 pub record FilterTyping : Type 0 where

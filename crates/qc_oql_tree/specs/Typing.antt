@@ -18,7 +18,7 @@ use Rattle.qc_oql_tree.specs.declared.tree.Query.{Query}
 use Rattle.qc_oql_tree.specs.declared.tree.Select.{Select}
 use Rattle.qc_oql_tree.specs.FormTypings.{Typing, NamedTyping, FilterTyping, OrderTyping, type_of, type_after}
 use Rattle.qc_oql_tree.specs.FormTypings.{type_of_both, matched_type, chosen_type, quantified_type, collected_type}
-use Rattle.qc_oql_tree.specs.FormTypings.{structured_type, selected_type}
+use Rattle.qc_oql_tree.specs.FormTypings.{structured_type, selected_type, type_beside}
 use Rattle.qc_oql_tree.specs.OperatorTypes.{constant_type, one_type, two_type, divided_type, field_type, branded_type}
 
 -- an expression, by the typings of its parts
@@ -50,7 +50,7 @@ key_typing k = k.of
 
 -- a name with an expression
 abbrev pub named_typing : Named-F Typing FilterTyping Typing NamedTyping OrderTyping Typing → NamedTyping
-named_typing n = record { at = n.at; name = n.name; of = n.of }
+named_typing n = record { at = n.at; name = n.name; of = type_beside n.at n.name n.of }
 
 -- an order
 abbrev pub order_typing : Order-F Typing FilterTyping Typing NamedTyping OrderTyping Typing → OrderTyping
