@@ -102,9 +102,10 @@ module _ (c : SchemaOf) where
   -- ---- the structs of trees
 
   pub named_is : (n : Named) → named_type c n ≡ record {
-      at = (out-Named n).at;
-      name = (out-Named n).name;
-      of = type_beside (out-Named n).at (out-Named n).name (oql_type c (out-Named n).of) }
+    at = (out-Named n).at;
+    name = (out-Named n).name;
+    of = type_beside (out-Named n).at (out-Named n).name (oql_type c (out-Named n).of);
+  }
   named_is n =
       fold_out-Named Typing FilterTyping Typing NamedTyping OrderTyping Typing
       (form_type c) filter_typing key_typing named_typing order_typing (select_typing c) n

@@ -302,12 +302,7 @@ fn bound(
     ensures { Checks ((typing.named_type schema.now body.now).of
         (((typing.named_type schema.now body.now).name, ty.now) ∷ types_of scope.now)) result }
 {
-    type_beside(
-        alloc,
-        schema,
-        &Scope::Bind(&body.name, &*ty, &*scope),
-        body,
-    )
+    type_beside(alloc, schema, &Scope::Bind(&body.name, &*ty, &*scope), body)
 }
 
 // What a source binds.
