@@ -1,10 +1,9 @@
 #!/usr/bin/env python3
-"""Times the parsing of queries of about 1,000 tokens, from tokens to the tree: the first parse of a process, and a later one.
-It also tells the memory that a parse takes, and what of it the tree is.
+"""Times the parsing of queries of about 1,000 tokens, from tokens to the tree: the first parse of a process, and a
+later one. It also tells the memory that a parse takes, and what of it the tree is.
 
 It lies outside the gate: run it by hand after `rt ci`. It makes a program of its own in a folder for temporary files,
-over copies of the crates, so nothing in the repository changes; what of the crates `rt ci` has not proved here is
-proved first. The program takes the time itself, so that neither its start nor its build counts, and the least of some
+over this checkout's crates; what of them `rt ci` has not proved and built here is proved first. The program takes the time itself, so that neither its start nor its build counts, and the least of some
 rounds is told. With the path of another checkout that one's parser is measured. A machine that does other work makes
 the times longer.
 
@@ -23,8 +22,9 @@ from queries import CHECKS
 
 CRATES = ["qc_io", "qc_lex", "qc_oql_text"]
 TIMES, ROUNDS, TREES = 500, 20, 100
-MAIN = """//! Parses the query in the file `query` so often as its one word says, and prints its tokens, how many trees there were,
-//! and the nanoseconds. With a word `kept` behind it the trees are kept, and the system's account of the process follows.
+MAIN = """//! Parses the query in the file `query` so often as its one word says, and prints its tokens, how many trees
+//! there were, and the nanoseconds. With a word `kept` behind it the trees are kept, and the system's account of the
+//! process follows.
 #![tactic(auto)]
 
 use qc_io::{FileShelf, Shelf};
@@ -103,11 +103,10 @@ def build(folder, top):
     lines.append("bench_parsing: " + " ".join(sorted(needed)))
     (folder / "crates.txt").write_text("\n".join(lines) + "\n")
     shutil.copy(top / "HANDLES", folder)
-    for crate in sorted(needed):
-        ignored = shutil.ignore_patterns("out", "must-fail")
-        shutil.copytree(top / "crates" / crate, folder / "crates" / crate, ignore=ignored)
     crate = folder / "crates" / "bench_parsing"
     (crate / "src").mkdir(parents=True)
+    for name in sorted(needed):
+        (folder / "crates" / name).symlink_to(top / "crates" / name)
     (crate / "src" / "main.rt").write_text(MAIN)
     subprocess.run(["rt", "run"], cwd=crate, check=True, stdout=subprocess.DEVNULL)
     return crate / "out" / "bench_parsing"
@@ -116,8 +115,8 @@ def build(folder, top):
 def printed(program, folder, words, times):
     """What a run on the file `query` prints, as words. Each of its parses gives a tree."""
     heap = {**os.environ, "MALLOC_TOP_PAD_": "0"}
-    run = subprocess.run([str(program), str(times)] + words, cwd=folder, check=True, capture_output=True, text=True, env=heap)
-    told = run.stdout.split()
+    words = [str(program), str(times)] + words
+    told = subprocess.run(words, cwd=folder, check=True, capture_output=True, text=True, env=heap).stdout.split()
     if len(told) < 3 or told[1] != str(times):
         sys.exit("bench: no query")
     return told
@@ -152,7 +151,8 @@ def main():
             first = min(took(program, folder, 1) for _ in range(ROUNDS))
             later = min(took(program, folder, TIMES) for _ in range(ROUNDS))
             print("%s: %.0f µs the first time, %.0f µs later" % (title, first, later), end="")
-            print("; %.0f bytes a token at most, %.0f of them the tree's" % memory(program, folder) if query != "1" else "", flush=True)
+            bytes_told = "; %.0f bytes a token at most, %.0f of them the tree's"
+            print(bytes_told % memory(program, folder) if query != "1" else "", flush=True)
 
 
 if __name__ == "__main__":
