@@ -1,6 +1,6 @@
 #!/usr/bin/env python3
-"""Times the parsing of queries of about 1,000 tokens, from tokens to the tree: the first parse of a process, and a later one.
-It also tells the memory that a parse takes, and what of it the tree is.
+"""Times the parsing of queries of about 1,000 tokens, from tokens to the tree: the first parse of a process, and a
+later one. It also tells the memory that a parse takes, and what of it the tree is.
 
 It lies outside the gate: run it by hand after `rt ci`. It makes a program of its own in a folder for temporary files,
 over copies of the crates, so nothing in the repository changes; what of the crates `rt ci` has not proved here is
@@ -23,8 +23,9 @@ from queries import CHECKS
 
 CRATES = ["qc_io", "qc_lex", "qc_oql_text"]
 TIMES, ROUNDS, TREES = 500, 20, 100
-MAIN = """//! Parses the query in the file `query` so often as its one word says, and prints its tokens, how many trees there were,
-//! and the nanoseconds. With a word `kept` behind it the trees are kept, and the system's account of the process follows.
+MAIN = """//! Parses the query in the file `query` so often as its one word says, and prints its tokens, how many trees
+//! there were, and the nanoseconds. With a word `kept` behind it the trees are kept, and the system's account of the
+//! process follows.
 #![tactic(auto)]
 
 use qc_io::{FileShelf, Shelf};
@@ -116,8 +117,8 @@ def build(folder, top):
 def printed(program, folder, words, times):
     """What a run on the file `query` prints, as words. Each of its parses gives a tree."""
     heap = {**os.environ, "MALLOC_TOP_PAD_": "0"}
-    run = subprocess.run([str(program), str(times)] + words, cwd=folder, check=True, capture_output=True, text=True, env=heap)
-    told = run.stdout.split()
+    words = [str(program), str(times)] + words
+    told = subprocess.run(words, cwd=folder, check=True, capture_output=True, text=True, env=heap).stdout.split()
     if len(told) < 3 or told[1] != str(times):
         sys.exit("bench: no query")
     return told
@@ -152,7 +153,8 @@ def main():
             first = min(took(program, folder, 1) for _ in range(ROUNDS))
             later = min(took(program, folder, TIMES) for _ in range(ROUNDS))
             print("%s: %.0f µs the first time, %.0f µs later" % (title, first, later), end="")
-            print("; %.0f bytes a token at most, %.0f of them the tree's" % memory(program, folder) if query != "1" else "", flush=True)
+            bytes_told = "; %.0f bytes a token at most, %.0f of them the tree's"
+            print(bytes_told % memory(program, folder) if query != "1" else "", flush=True)
 
 
 if __name__ == "__main__":
