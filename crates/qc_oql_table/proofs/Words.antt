@@ -16,7 +16,6 @@ use Rattle.qc_oql_tree.specs.Grammar as rel
 use Rattle.qc_oql_tree.specs.Kinds.{DISTINCT, EXISTS, FROM, CLOSE, COUNT, SUM, MIN, MAX, AVG, ELEMENT, FLATTEN, ABS}
 use Rattle.qc_oql_tree.specs.Kinds.{LEFT, RIGHT, UNBRAND, WHOLES, CONSTANTS, SETS, SUMS, DIVISIONS, TESTS, BINARIES}
 use Rattle.qc_oql_tree.specs.Kinds.{BRANDINGS, LABELS}
-use Rattle.qc_oql_tree.specs.Lexemes.{kind}
 use Rattle.qc_oql_tree.specs.Trees as trees
 use Rattle.qc_oql_table.specs.declared.value.Value.{Value}
 use Rattle.qc_oql_table.specs.declared.value.Value.TheVariants as value

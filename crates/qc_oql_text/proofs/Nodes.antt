@@ -1,5 +1,5 @@
 -- The size of each form of a tree.
-use Rattle.std.proofs.Common.{◌≡◌, ℕ, ◌+◌, List, rules, sym, ap, ◌∙◌, refl}
+use Rattle.std.proofs.Common.{◌≡◌, ℕ, ◌+◌, List, rules, sym, ap, ◌∙◌}
 use Rattle.std.proofs.lemmas.List.Sums.{sum-map}
 use Rattle.std.specs.List.{sum_by}
 use Rattle.std.specs.Prelude.{ℤ, Bool, Option, Some, None}

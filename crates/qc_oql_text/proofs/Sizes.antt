@@ -1,5 +1,5 @@
 -- A query has at most one node for each token.
-use Rattle.std.proofs.Common.{◌≡◌, ◌≤◌, ℕ, suc, ◌+◌, List, [], ◌∷◌, ◌++◌, length, arith}
+use Rattle.std.proofs.Common.{◌≤◌, ℕ, suc, ◌+◌, List, [], ◌∷◌, ◌++◌, length, arith}
 use Rattle.std.proofs.lemmas.List.Sums.{sum_by-append}
 use Rattle.std.specs.List.{sum_by}
 use Rattle.std.specs.Prelude.{ℤ, Bool, Option, Result, Ok, Err, IfOk}
@@ -17,16 +17,14 @@ use Rattle.qc_oql_tree.specs.declared.tree.Named.{Named}
 use Rattle.qc_oql_tree.specs.declared.tree.Oql.{Oql}
 use Rattle.qc_oql_tree.specs.declared.tree.Oql.TheVariants as tree
 use Rattle.qc_oql_tree.specs.declared.tree.Order.{Order}
-use Rattle.qc_oql_tree.specs.declared.tree.Quantifier.{Quantifier}
 use Rattle.qc_oql_tree.specs.declared.tree.Quantifier.TheVariants as quantifier
 use Rattle.qc_oql_tree.specs.declared.tree.Query as queries
 use Rattle.qc_oql_tree.specs.declared.tree.Select.{Select}
-use Rattle.qc_oql_tree.specs.declared.tree.Unary.{Unary}
 use Rattle.qc_oql_tree.specs.Grammar as rel
 use Rattle.qc_oql_tree.specs.Lexemes.{whole, content, lexeme_at}
 use Rattle.qc_oql_tree.specs.Operators.{constant_of, unary_of, binary_of, division_of, branding_of}
 use Rattle.qc_oql_tree.specs.Sizes.{size, filter_size, key_size, named_size, order_size, select_size, query_size}
-use Rattle.qc_oql_tree.specs.Trees.{named, select, filter, order, key}
+use Rattle.qc_oql_tree.specs.Trees.{named}
 use Rattle.qc_oql_text.proofs.Nodes.{option_size, size-Name, size-Whole, size-Text, size-Constant, size-Struct}
 use Rattle.qc_oql_text.proofs.Nodes.{size-Bag, size-Unary, size-Binary}
 use Rattle.qc_oql_text.proofs.Nodes.{size-Divide, size-Like, size-Dot, size-Brand, size-Match, size-If, size-Quantified}

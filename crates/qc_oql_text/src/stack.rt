@@ -1,4 +1,5 @@
-// Values taken from the stack. Where another is on top than is wanted, one stands for it (qc_oql_table/specs/Values.antt).
+// Values taken from the stack. Where another is on top than is wanted, one stands for it
+// (qc_oql_table/specs/Values.antt).
 ghost use Rattle.std.specs.Prelude.{◌≡◌, [], IfOk};
 ghost use Rattle.qc_oql_table.specs.Values as spec;
 
