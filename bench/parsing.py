@@ -3,9 +3,9 @@
 later one. It also tells the memory that a parse takes, and what of it the tree is.
 
 It lies outside the gate: run it by hand after `rt ci`. It makes a program of its own in a folder for temporary files,
-over this checkout's crates; what of them `rt ci` has not proved and built here is proved first. The program takes the time itself, so that neither its start nor its build counts, and the least of some
-rounds is told. With the path of another checkout that one's parser is measured. A machine that does other work makes
-the times longer.
+over this checkout's crates; what of them `rt ci` has not proved and built here is proved first. The program takes the
+time itself, so that neither its start nor its build counts, and the least of some rounds is told. With the path of
+another checkout that one's parser is measured. A machine that does other work makes the times longer.
 
 Memory is what a process with one parse has mapped at most beside one that only scans; the heap grows by single pages
 for it. The tree's is what each further tree adds that is kept.
