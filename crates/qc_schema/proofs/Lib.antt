@@ -4,3 +4,4 @@ mod Named
 mod Returning
 mod Sending
 pub mod TreeLayers
+mod Valued

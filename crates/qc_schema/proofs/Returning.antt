@@ -22,8 +22,7 @@ use Rattle.serde_json.specs.Find.{of_integer}
 use Rattle.serde_json.specs.Read as read
 use Rattle.serde_json.specs.Read.{max_depth}
 use Rattle.serde_json.specs.View.{items_of}
-use Rattle.serde_json.specs.Written.{outline, items_outline, members_outline, has_float, items_have_float}
-use Rattle.serde_json.specs.Written.{members_have_float}
+use Rattle.serde_json.specs.Written.{outline, items_outline, members_outline}
 use Rattle.serde_json.proofs.Numbers.{number_of-decimal, number_of-negative}
 use Rattle.serde_json.proofs.Texts.{print-outline}
 use Rattle.qc_data.specs.Facts.{all_true, all_values, all_above, rise}
@@ -38,6 +37,7 @@ use Rattle.qc_containers.proofs.Truth.{and_parts, and_both, is_Less}
 use Rattle.qc_schema.specs.Reading as back
 use Rattle.qc_schema.specs.inner.Sound.{sound, sound_step, fits64}
 use Rattle.qc_schema.specs.Writing.{data_of, data_step, members_of, text_of}
+use Rattle.qc_schema.proofs.Valued.{data-roll}
 
 -- a name that is above all before it goes last
 AllBelow : {A : Type 0} → List (List ℕ × A) → List ℕ → Type 0
@@ -76,15 +76,11 @@ rising_map f (p ∷ ps) = ap₂ (λ a b. a && b) (above_map f p.0 ps) (rising_ma
 
 -- ---- one layer
 
-data-roll : (x : Json-F Json) → data_of (roll-Json x) ≡ data_step (map-Json Json Data data_of x)
-data-roll x = fold-roll-Json Data data_step x
-
 sound-roll : (x : Json-F Json) → sound (roll-Json x) ≡ sound_step (map-Json Json Bool sound x)
 sound-roll x = fold-roll-Json Bool sound_step x
 
--- the data has no float, and its numbers' texts are numbers; it is read where its outline stands, and is the tree's
+-- the data's numbers' texts are numbers; it is read where its outline stands, and is the tree's
 record Returns (d : Data) (j : Json) : Type 0 where
-  whole : has_float d ≡ false
   numbers : tree.HasNumbers (outline d)
   reads : read.of_json (outline d) ≡ Some d
   tree : back.of_data d ≡ Some j
@@ -100,22 +96,15 @@ small n h = ltb-true n (2 ^ 63) h
 
 int_returns : (z : ℤ) → fits64 z ≡ true → Returns (value.number (of_integer z)) (J.Int z)
 int_returns (pos n) h = record {
-  whole = refl;
   numbers = IsNumber-decimal n (omega (arith, small n h));
   reads = ap (option_map value.number) (number_of-decimal n (omega (arith, small n h)));
   tree = rw h refl;
 }
 int_returns (negsuc n) h = record {
-  whole = refl;
   numbers = IsNumber-signed_decimal (negsuc n) (small n h);
   reads = ap (option_map value.number) (number_of-negative n (small n h));
   tree = refl;
 }
-
-items_whole : (ws : List Seen) → all_true (map sound (map (λ e. e.0) ws)) ≡ true
-    → items_have_float (items_of (map data_of (map (λ e. e.0) ws))) ≡ false
-items_whole [] h = refl
-items_whole (w ∷ ws) h = let p = and_parts (sound w.0) _ h in rw ((w.1 p.0).whole, items_whole ws p.1) refl
 
 items_numbers : (ws : List Seen) → all_true (map sound (map (λ e. e.0) ws)) ≡ true
     → tree.ItemsHaveNumbers (items_outline (items_of (map data_of (map (λ e. e.0) ws))))
@@ -135,11 +124,6 @@ items_tree (w ∷ ws) h = let p = and_parts (sound w.0) _ h in rw ((w.1 p.0).tre
 
 abbrev trees : List (List ℕ × Seen) → List (List ℕ × Json)
 trees = map (on_value (λ e. e.0))
-
-members_whole : (ws : List (List ℕ × Seen)) → all_values (map (on_value sound) (trees ws)) ≡ true
-    → members_have_float (members_of (map (on_value data_of) (trees ws))) ≡ false
-members_whole [] h = refl
-members_whole (w ∷ ws) h = let p = and_parts (sound w.1.0) _ h in rw ((w.1.1 p.0).whole, members_whole ws p.1) refl
 
 members_numbers : (ws : List (List ℕ × Seen)) → all_values (map (on_value sound) (trees ws)) ≡ true
     → tree.MembersHaveNumbers (members_outline (members_of (map (on_value data_of) (trees ws))))
@@ -170,21 +154,19 @@ members_tree (w ∷ ws) h = let p = and_parts (sound w.1.0) _ h in rw ((w.1.1 p.
 layer_returns : (w : Json-F Seen) → sound_step (map-Json Json Bool sound (map-Json Seen Json (λ e. e.0) w)) ≡ true
     → Returns (data_step (map-Json Json Data data_of (map-Json Seen Json (λ e. e.0) w)))
     (roll-Json (map-Json Seen Json (λ e. e.0) w))
-layer_returns Json-F.Null h = record { whole = refl; numbers = tt; reads = refl; tree = ap Some (sym J.rolls-Null) }
+layer_returns Json-F.Null h = record { numbers = tt; reads = refl; tree = ap Some (sym J.rolls-Null) }
 layer_returns (Json-F.Bool b) h =
-    record { whole = refl; numbers = tt; reads = refl; tree = ap Some (sym (J.rolls-Bool b)) }
+    record { numbers = tt; reads = refl; tree = ap Some (sym (J.rolls-Bool b)) }
 layer_returns (Json-F.Int n) h =
     let r = int_returns n h in record {
-      whole = r.whole;
       numbers = r.numbers;
       reads = r.reads;
       tree = r.tree
           ∙ ap Some (sym (J.rolls-Int n));
     }
 layer_returns (Json-F.Text s) h =
-    record { whole = refl; numbers = tt; reads = refl; tree = ap Some (sym (J.rolls-Text s)) }
+    record { numbers = tt; reads = refl; tree = ap Some (sym (J.rolls-Text s)) }
 layer_returns (Json-F.Array ws) h = record {
-  whole = items_whole ws h;
   numbers = items_numbers ws h;
   reads = ap (option_map value.array) (items_read ws h);
   tree = ap (option_map J.Array) (items_tree ws h) ∙ ap Some (sym (J.rolls-Array _));
@@ -192,7 +174,6 @@ layer_returns (Json-F.Array ws) h = record {
 layer_returns (Json-F.Object ws) h =
     let p = and_parts (rise (map (on_value sound) (trees ws))) _ h in
     record {
-      whole = members_whole ws p.1;
       numbers = members_numbers ws p.1;
       reads = ap (option_map value.object)
           (members_read ws [] p.1 (rising_map data_of (trees ws) ∙ sym (rising_map sound (trees ws)) ∙ p.0));
@@ -226,10 +207,6 @@ mutual
   depth-members : (ms : Members) → tree.members_depth (members_outline ms) ≡ members_depth ms
   depth-members no_members = refl
   depth-members (member k d ms) = ap₂ max (depth-outline d) (depth-members ms)
-
--- no number of a tree is a float
-pub whole : (j : Json) → IsTrue (sound j) → has_float (data_of j) ≡ false
-whole j ok = (returns j ok).whole
 
 -- the text is read as the tree
 pub means : (j : Json) (text : List ℕ) → text ≡ text_of j → IsUtf8 text → IsTrue (sound j)

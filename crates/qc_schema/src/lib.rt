@@ -2,6 +2,7 @@
 #![tactic(auto)]
 
 mod describing;
+mod encoded;
 mod faults;
 mod input;
 mod reading;
@@ -12,6 +13,7 @@ mod typing;
 mod writing;
 
 pub use describing::type_text;
+pub use encoded::datum_text;
 pub use faults::{InputFault, SchemaFault};
 pub use input::read_input;
 pub use reading::read_json;

@@ -1,5 +1,6 @@
 // The texts of JSON trees.
 ghost use Rattle.std.specs.Prelude.{◌≡◌, ◌≤◌, IfOk, OnOk, map};
+ghost use Rattle.std.specs.String.{string_bytes};
 ghost use Rattle.serde_json.specs.Data.{number, array, object, depth};
 ghost use Rattle.serde_json.specs.Events.{SendsValue};
 ghost use Rattle.serde_json.specs.Find.{of_integer};
@@ -23,8 +24,17 @@ pub fn json_text(alloc: Global, j: &Json) -> Result<Chars, Memory>
     ensures reads_back { IfOk result (λ text. depth (data_of j.now) ≤ max_depth → Means text j.now) }
 {
     check_sound(j);
+    let text = tree_text(alloc, j)?;
+    let _text = text.as_str();
+    Chars::from_string(text)
+}
+
+// The compact text of a tree.
+pub(crate) fn tree_text(alloc: Global, j: &Json) -> Result<String, Memory>
+    ensures { IfOk result (λ text. string_bytes text ≡ text_of j.now) }
+{
     match to_string(alloc, &Sent { tree: j }) {
-        Ok(text) => Chars::of(alloc, text.as_str()),
+        Ok(text) => Ok(text),
         Err(_) => Err(Memory),
     }
 }
@@ -64,7 +74,7 @@ fn send<S: Serializer>(j: &Json, out: &mut S) -> Result<(), S::Error>
 }
 
 // Sends the integer's event.
-fn send_integer<S: Serializer>(n: i64, out: &mut S) -> Result<(), S::Error>
+pub(crate) fn send_integer<S: Serializer>(n: i64, out: &mut S) -> Result<(), S::Error>
     ensures { OnOk result (SendsValue (number (of_integer n)) (S.written out.old) (S.written out.new)) }
 {
     if n >= 0 {

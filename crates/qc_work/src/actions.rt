@@ -9,9 +9,9 @@ use crate::lower::lower_query;
 use crate::refusal::Refusal;
 use crate::sources::{Checked, evaluate, type_of};
 use qc_containers::Memory;
-use qc_data::{Halt, enc};
+use qc_data::Halt;
 use qc_js::{Js, emit_text};
-use qc_schema::{json_text, type_text};
+use qc_schema::{datum_text, type_text};
 use qc_types::World;
 use std::alloc::Global;
 
@@ -19,7 +19,8 @@ use std::alloc::Global;
 pub fn type_line(alloc: Global, checked: &Checked) -> Result<String, Refusal>
     ensures { Acts string_bytes (Check checked.now) result }
 {
-    Ok(line(alloc, type_text(alloc, type_of(&checked.query))?.as_str())?)
+    let text = type_text(alloc, type_of(&checked.query))?;
+    Ok(line(String::from_str(alloc, text.as_str())?)?)
 }
 
 /// The text of the query's program, where it is compiled.
@@ -40,18 +41,17 @@ pub fn answer_line(alloc: Global, checked: &Checked, world: &World) -> Result<St
     ensures { Acts string_bytes (Run checked.now world.now) result }
 {
     match evaluate(alloc, &checked.query, world) {
-        Ok(answer) => Ok(line(alloc, json_text(alloc, &enc(alloc, &answer)?)?.as_str())?),
+        Ok(answer) => Ok(line(datum_text(alloc, &answer)?)?),
         Err(Halt::Range) => Err(Refusal::Range),
         Err(Halt::Stuck) => unreachable!(),
         Err(Halt::Memory) => Err(Refusal::Memory),
     }
 }
 
-// The text and a line feed.
-fn line(alloc: Global, text: &str) -> Result<String, Memory>
-    ensures { IfOk result (λ made. string_bytes made ≡ line text.now) }
+// The text and a line feed behind it.
+fn line(mut text: String) -> Result<String, Memory>
+    ensures { IfOk result (λ made. string_bytes made ≡ line (string_bytes text)) }
 {
-    let mut made = String::from_str(alloc, text)?;
-    made.push_str("\n")?;
-    Ok(made)
+    text.push_str("\n")?;
+    Ok(text)
 }
