@@ -20,7 +20,7 @@ pub fn type_line(alloc: Global, checked: &Checked) -> Result<String, Refusal>
     ensures { Acts string_bytes (Check checked.now) result }
 {
     let text = type_text(alloc, type_of(&checked.query))?;
-    Ok(line(String::from_str(alloc, text.as_str())?)?)
+    Ok(line(string_of(alloc, text.as_str())?)?)
 }
 
 /// The text of the query's program, where it is compiled.
@@ -54,4 +54,11 @@ fn line(mut text: String) -> Result<String, Memory>
 {
     text.push_str("\n")?;
     Ok(text)
+}
+
+// The text as a string.
+fn string_of(alloc: Global, text: &str) -> Result<String, Memory>
+    ensures { IfOk result (λ made. string_bytes made ≡ text.now) }
+{
+    Ok(String::from_str(alloc, text)?)
 }
