@@ -1,12 +1,15 @@
-// The outcome of trees in 64 bits.
-ghost use Rattle.qc_data.specs.Outcome.{bits64, gather, Gives};
+// The outcome of trees in 64 bits. A form with two parts evaluates one and hands its value on, with the other.
+ghost use Rattle.qc_data.specs.Outcome.{and_then, bits64, Gives};
 ghost use Rattle.qc_nra.specs.Forms as forms;
 ghost use Rattle.qc_nra.specs.Meaning.{nra};
+ghost use Rattle.qc_ops.specs.Operators.{binary, unary};
 
-use crate::operands::{append, beside, bool_of, fields_of, global_of, items_of, only_bag, product_of};
+use crate::operands::{
+    append, beside, bool_of, fields_of, global_of, items_of, only_bag, product_of,
+};
 use crate::tree::Nra;
 use qc_data::{Datum, Halt, Items, copy};
-use qc_ops::{apply1, apply2};
+use qc_ops::{Binary, Unary, apply1, apply2};
 use qc_types::World;
 use std::alloc::Global;
 
@@ -28,35 +31,30 @@ pub fn eval_at(
         Nra::Input => Ok(copy(alloc, input)?),
         Nra::Env => Ok(copy(alloc, env)?),
         Nra::Global(name) => global_of(alloc, world, name),
-        Nra::Unary(op, a) => {
-            let x = eval_at(alloc, a.get(), world, input, env)?;
-            apply1(alloc, world.classes(), op, &x)
-        }
+        Nra::Unary(op, a) => of_one(alloc, a.get(), world, input, env, op),
         Nra::Binary(op, a, b) => {
             let x = eval_at(alloc, a.get(), world, input, env)?;
-            let y = eval_at(alloc, b.get(), world, input, env)?;
-            apply2(alloc, op, &x, &y)
+            of_right(alloc, b.get(), world, input, env, op, x)
         }
         Nra::Comp(a, b) => {
             let v = eval_at(alloc, b.get(), world, input, env)?;
-            eval_at(alloc, a.get(), world, &v, env)
+            with_input(alloc, a.get(), world, env, v)
         }
         Nra::Map(a, b) => {
             let v = eval_at(alloc, b.get(), world, input, env)?;
-            map_of(alloc, a.get(), world, env, &v)
+            map_of(alloc, a.get(), world, env, v)
         }
         Nra::Select(a, b) => {
             let v = eval_at(alloc, b.get(), world, input, env)?;
-            select_of(alloc, a.get(), world, env, &v)
+            select_of(alloc, a.get(), world, env, v)
         }
         Nra::Product(a, b) => {
             let v = eval_at(alloc, a.get(), world, input, env)?;
-            let w = eval_at(alloc, b.get(), world, input, env)?;
-            product_of(alloc, &v, &w)
+            product_with(alloc, b.get(), world, input, env, v)
         }
         Nra::DepJoin(a, b) => {
             let v = eval_at(alloc, b.get(), world, input, env)?;
-            join_of(alloc, a.get(), world, env, &v)
+            join_of(alloc, a.get(), world, env, v)
         }
         Nra::Default(a, b) => {
             let v = eval_at(alloc, a.get(), world, input, env)?;
@@ -64,7 +62,7 @@ pub fn eval_at(
         }
         Nra::EnvComp(a, b) => {
             let v = eval_at(alloc, b.get(), world, input, env)?;
-            eval_at(alloc, a.get(), world, input, &v)
+            with_env(alloc, a.get(), world, input, v)
         }
         Nra::MapEnv(a) => env_map_of(alloc, a.get(), world, input, env),
         Nra::Either(a, b) => match input {
@@ -82,16 +80,66 @@ pub fn eval_at(
     }
 }
 
-// The truth value of a condition.
+// An operator on the value of a tree.
 #[cycle(eval)]
-#[tactic(auto, unfolding(crate::specs::Forms::truth))]
-fn truth(
+fn of_one(
     alloc: Global,
-    test: &Nra,
+    a: &Nra,
     world: &World,
     input: &Datum,
     env: &Datum,
-) -> Result<bool, Halt>
+    op: &Unary,
+) -> Result<Datum, Halt>
+    ensures { Gives (and_then (nra bits64 world.now a.now input.now env.now) (unary bits64 world.now.classes op.now))
+        result }
+{
+    let x = eval_at(alloc, a, world, input, env)?;
+    apply1(alloc, world.classes(), op, &x)
+}
+
+// An operator on a left value and the value of a tree.
+#[cycle(eval)]
+fn of_right(
+    alloc: Global,
+    b: &Nra,
+    world: &World,
+    input: &Datum,
+    env: &Datum,
+    op: &Binary,
+    x: Datum,
+) -> Result<Datum, Halt>
+    ensures { Gives (and_then (nra bits64 world.now b.now input.now env.now) (λ y. binary bits64 op.now x y)) result }
+{
+    let y = eval_at(alloc, b, world, input, env)?;
+    apply2(alloc, op, &x, &y)
+}
+
+// A tree with a value as its input.
+#[cycle(eval)]
+fn with_input(
+    alloc: Global,
+    a: &Nra,
+    world: &World,
+    env: &Datum,
+    input: Datum,
+) -> Result<Datum, Halt>
+    ensures { Gives (nra bits64 world.now a.now input env.now) result }
+{
+    eval_at(alloc, a, world, &input, env)
+}
+
+// A tree with a value as its environment.
+#[cycle(eval)]
+fn with_env(alloc: Global, a: &Nra, world: &World, input: &Datum, env: Datum) -> Result<Datum, Halt>
+    ensures { Gives (nra bits64 world.now a.now input.now env) result }
+{
+    eval_at(alloc, a, world, input, &env)
+}
+
+// The truth value of a condition.
+#[cycle(eval)]
+#[tactic(auto, unfolding(crate::specs::Forms::truth))]
+fn truth(alloc: Global, test: &Nra, world: &World, input: &Datum, env: &Datum) -> Result<bool, Halt>
     ensures { Gives (forms.truth (nra bits64 world.now test.now input.now env.now)) result }
 {
     let holds = eval_at(alloc, test, world, input, env)?;
@@ -106,11 +154,11 @@ fn map_of(
     body: &Nra,
     world: &World,
     env: &Datum,
-    source: &Datum,
+    source: Datum,
 ) -> Result<Datum, Halt>
-    ensures { Gives (forms.map_of (nra bits64 world.now body.now) env.now source.now) result }
+    ensures { Gives (forms.map_of (nra bits64 world.now body.now) env.now source) result }
 {
-    let items = items_of(source)?;
+    let items = items_of(&source)?;
     let mut all = Items::new(alloc);
     for item in items.as_slice() {
         all.add(eval_at(alloc, body, world, item, env)?)?;
@@ -120,18 +168,17 @@ fn map_of(
 
 // The members of a collection on which a body is true.
 #[cycle(eval)]
-#[tactic(auto, using(qc_data::proofs::Outcomes::gather_is),
-    unfolding(crate::specs::Forms::select_of, crate::specs::Forms::kept))]
+#[tactic(auto, using(qc_data::proofs::Outcomes::gather_is), unfolding(crate::specs::Forms::select_of, crate::specs::Forms::kept))]
 fn select_of(
     alloc: Global,
     body: &Nra,
     world: &World,
     env: &Datum,
-    source: &Datum,
+    source: Datum,
 ) -> Result<Datum, Halt>
-    ensures { Gives (forms.select_of (nra bits64 world.now body.now) env.now source.now) result }
+    ensures { Gives (forms.select_of (nra bits64 world.now body.now) env.now source) result }
 {
-    let items = items_of(source)?;
+    let items = items_of(&source)?;
     let mut all = Items::new(alloc);
     for item in items.as_slice() {
         if truth(alloc, body, world, item, env)? {
@@ -139,6 +186,22 @@ fn select_of(
         }
     }
     Ok(Datum::Coll(all))
+}
+
+// Each pair of a member of a collection and one of the collection that a tree gives.
+#[cycle(eval)]
+fn product_with(
+    alloc: Global,
+    b: &Nra,
+    world: &World,
+    input: &Datum,
+    env: &Datum,
+    first: Datum,
+) -> Result<Datum, Halt>
+    ensures { Gives (and_then (nra bits64 world.now b.now input.now env.now) (forms.product_of first)) result }
+{
+    let second = eval_at(alloc, b, world, input, env)?;
+    product_of(alloc, &first, &second)
 }
 
 // Each record of a collection with the members that a body gives for it.
@@ -149,11 +212,11 @@ fn join_of(
     body: &Nra,
     world: &World,
     env: &Datum,
-    source: &Datum,
+    source: Datum,
 ) -> Result<Datum, Halt>
-    ensures { Gives (forms.join_of (nra bits64 world.now body.now) env.now source.now) result }
+    ensures { Gives (forms.join_of (nra bits64 world.now body.now) env.now source) result }
 {
-    let items = items_of(source)?;
+    let items = items_of(&source)?;
     let mut all = Items::new(alloc);
     for item in items.as_slice() {
         let more = joined(alloc, body, world, env, item)?;

@@ -69,11 +69,7 @@ pub(crate) fn product_of(alloc: Global, first: &Datum, second: &Datum) -> Result
 {
     let first = items_of(first)?;
     let second = items_of(second)?;
-    Ok(Datum::Coll(pairs(
-        alloc,
-        first.as_slice(),
-        second.as_slice(),
-    )?))
+    Ok(Datum::Coll(pairs(alloc, first.as_slice(), second.as_slice())?))
 }
 
 // The same of their members.
