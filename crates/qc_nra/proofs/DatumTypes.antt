@@ -1,6 +1,9 @@
 -- The type of a datum of each form.
-use Rattle.std.proofs.Common.{◌≡◌, ℕ, ℤ, Bool, true, List, [], ◌∷◌, map, Option, Some, refl, rules, sym, ap, ◌∙◌}
-use Rattle.std.specs.Prelude.{option_map, Result, IfOk}
+use Rattle.std.proofs.Common.{◌≡◌, ◌+◌, ◌<◌, ℕ, suc, ℤ, Bool, true, ◌&&◌, List, [], ◌∷◌, ◌++◌, length, drop, take}
+use Rattle.std.proofs.Common.{get_or, map, Option, Some, arith, refl, rules, sym, ap, ◌∙◌}
+use Rattle.std.proofs.Math.Seq.{drop-cons, take-suc}
+use Rattle.std.proofs.lemmas.List.{map-append}
+use Rattle.std.specs.Prelude.{is_some, option_and_then, option_map, Result, IfOk}
 use Rattle.qc_containers.specs.declared.memory.Memory.{Memory}
 use Rattle.qc_containers.specs.Rising.{on_value}
 use Rattle.qc_data.specs.declared.data.Datum.{Datum, the_lemmas}
@@ -12,6 +15,7 @@ use Rattle.qc_types.specs.declared.ty.Width.TheVariants.{Exact}
 use Rattle.qc_types.specs.declared.ty.Ty.{Ty}
 use Rattle.qc_types.specs.declared.ty.Ty.TheVariants as ty
 use Rattle.qc_types.specs.Classes.{Defs}
+use Rattle.qc_types.specs.Joins.{join}
 use Rattle.qc_types.specs.Types.{fits}
 use Rattle.qc_typing.specs.Kinds.{when}
 use Rattle.qc_nra.specs.ConstantTypes.{all_typed, join_all, or_bottom, exactly, constant_step, datum_type}
@@ -88,3 +92,51 @@ pub row_made : (c : Defs) (fs : List (List ℕ × Datum)) (row : List (List ℕ 
     → all_typed (map (on_value (datum_type c)) fs) ≡ true
     → exactly (map (on_value (datum_type c)) fs) ≡ Some (ty.Rec Exact row)
 row_made c fs row made all = rw (made, all, fused c fs) refl
+
+-- ---- one member and one field more
+
+next : {A : Type 0} (xs : List A) (k : ℕ) (p : A) → k < length xs → p ≡ get_or xs k p
+    → drop k xs ≡ p ∷ drop (k + 1) xs
+next xs k p lt at =
+    let one : suc k ≡ k + 1 = omega arith in
+    drop-cons xs k p lt ∙ ap (λ (x : _). x ∷ drop (suc k) xs) (sym at) ∙ ap (λ (n : ℕ). p ∷ drop n xs) one
+
+module _ (c : Defs) where
+  abbrev rest : List Datum → Ty → Option Ty
+  rest xs v = join_all c v (map (datum_type c) xs)
+
+  -- the join goes on with the next member
+  pub join_more : (whole : Option Ty) (items : List Datum) (k : ℕ) (p : Datum) (j t : Ty) (o : Option Ty)
+      → whole ≡ join_all c j (map (datum_type c) (drop k items)) → k < length items → p ≡ get_or items k p
+      → datum_type c p ≡ Some t → join c j t ≡ o
+      → whole ≡ option_and_then (λ v. join_all c v (map (datum_type c) (drop (k + 1) items))) o
+  join_more whole items k p j t o w lt at is up =
+      w ∙ ap (λ (l : List Datum). rest l j) (next items k p lt at)
+      ∙ ap (λ (x : Option Ty). option_and_then (λ u. option_and_then (rest (drop (k + 1) items)) (join c j u)) x) is
+      ∙ ap (λ (x : Option Ty). option_and_then (rest (drop (k + 1) items)) x) up
+
+  abbrev known : Datum → Ty
+  known d = or_bottom (datum_type c d)
+
+  -- one field more is put
+  pub row_more : (row : List (List ℕ × Ty)) (fs : List (List ℕ × Datum)) (k : ℕ) (p : List ℕ × Datum) (n : List ℕ)
+      (t : Ty) → row ≡ map (on_value (λ d. or_bottom (datum_type c d))) (take k fs) → k < length fs → p ≡ get_or fs k p
+      → n ≡ p.0 → datum_type c p.1 ≡ Some t
+      → row ++ (n, t) ∷ [] ≡ map (on_value (λ d. or_bottom (datum_type c d))) (take (k + 1) fs)
+  row_more row fs k p n t made lt at same is =
+      let more : take (k + 1) fs ≡ take k fs ++ (p ∷ []) =
+      (let one : k + 1 ≡ suc k = omega arith in ap (λ (i : ℕ). take i fs) one) ∙ take-suc fs k p lt
+      ∙ ap (λ (q : List ℕ × Datum). take k fs ++ (q ∷ [])) (sym at) in
+      let value : t ≡ known p.1 = typed_or (datum_type c p.1) t is in
+      let field : ◌≡◌ {A = List ℕ × Ty} (n, t) (p.0, known p.1) = λ i. (same i, value i) in
+      ap (λ (r : List (List ℕ × Ty)). r ++ (n, t) ∷ []) made
+      ∙ ap (λ (f : List ℕ × Ty). map (on_value known) (take k fs) ++ f ∷ []) field
+      ∙ sym (ap (map (on_value known)) more ∙ map-append (on_value known) (take k fs) (p ∷ []))
+
+  -- it has a type, so those that are left decide
+  pub typed_more : (whole : Bool) (fs : List (List ℕ × Datum)) (k : ℕ) (p : List ℕ × Datum) (t : Ty)
+      → whole ≡ all_typed (map (on_value (datum_type c)) (drop k fs)) → k < length fs → p ≡ get_or fs k p
+      → datum_type c p.1 ≡ Some t → whole ≡ all_typed (map (on_value (datum_type c)) (drop (k + 1) fs))
+  typed_more whole fs k p t w lt at is =
+      w ∙ ap (λ (l : List (List ℕ × Datum)). all_typed (map (on_value (datum_type c)) l)) (next fs k p lt at)
+      ∙ ap (λ (o : Option Ty). is_some o && all_typed (map (on_value (datum_type c)) (drop (k + 1) fs))) is
