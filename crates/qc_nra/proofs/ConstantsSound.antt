@@ -1,8 +1,7 @@
 -- Constants are of their types.
 use Rattle.std.proofs.Common.{◌≡◌, ℕ, List, [], ◌∷◌, map, Option, Some, None, Bool, true, false, cond, IsTrue, refl}
-use Rattle.std.proofs.Common.{sym, ap, ◌∙◌, subst}
+use Rattle.std.proofs.Common.{sym, ◌∙◌, subst}
 use Rattle.std.specs.Prelude.{is_some, option_map, option_and_then}
-use Rattle.std.specs.List.{list_all}
 use Rattle.std.specs.Str.{bytes_eq}
 use Rattle.qc_containers.specs.Pairs.{lookup}
 use Rattle.qc_containers.specs.Rising.{on_value}
@@ -10,7 +9,6 @@ use Rattle.qc_data.specs.Facts.{rising}
 use Rattle.qc_data.specs.Outcome.{Mode, Outcome, Value}
 use Rattle.qc_data.specs.declared.data.Datum.{Datum}
 use Rattle.qc_data.specs.declared.data.Datum.TheOpen.{Datum-F}
-use Rattle.qc_data.specs.declared.data.Datum.TheViews.{roll-Datum}
 use Rattle.qc_data.specs.declared.data.Datum.TheVariants as datum
 use Rattle.qc_data.specs.declared.data.Datum.TheFolds.{map-Datum, para-roll-Datum}
 use Rattle.qc_types.specs.declared.ty.Width.TheVariants.{Exact}
@@ -32,7 +30,7 @@ use Rattle.qc_typing.specs.Kinds.{when}
 use Rattle.qc_typing.specs.Typed.{HasType}
 use Rattle.qc_typing.proofs.Outcomes.{Typed, typed_some}
 use Rattle.qc_typing.proofs.Values.{out-Unit, out-Bool, out-Int, out-Text, out-Coll, out-Rec, out-Either, out-Brand}
-use Rattle.qc_nra.specs.ConstantTypes.{join_all, all_typed, or_bottom, exactly, constant_step, datum_type, constant_type}
+use Rattle.qc_nra.specs.ConstantTypes.{join_all, all_typed, or_bottom, constant_step, datum_type, constant_type}
 
 -- ---- what is there
 

@@ -1,6 +1,6 @@
 -- The types of the forms are right where their parts' are.
-use Rattle.std.proofs.Common.{◌≡◌, ℕ, List, [], ◌∷◌, Option, Some, None, Bool, true, false, ◌&&◌, cond, IsTrue, refl, sym}
-use Rattle.std.proofs.Common.{ap, ◌∙◌, rules, subst}
+use Rattle.std.proofs.Common.{◌≡◌, List, [], ◌∷◌, Option, Some, None, Bool, true, false, ◌&&◌, cond, IsTrue, refl, sym}
+use Rattle.std.proofs.Common.{rules, subst}
 use Rattle.std.specs.Prelude.{is_some, option_map, option_and_then}
 use Rattle.qc_data.specs.Kinds.{as_coll, coll_at}
 use Rattle.qc_data.specs.Outcome.{Mode, any_size, within, Outcome, Range, Stuck, Value, Halts, and_then, gather, each}
@@ -26,10 +26,10 @@ use Rattle.qc_ops.specs.Records.{concatenation}
 use Rattle.qc_typing.specs.Kinds.{when}
 use Rattle.qc_typing.specs.Tables.{binary_type, both_below}
 use Rattle.qc_typing.specs.Typed.{HasType}
-use Rattle.qc_typing.proofs.Outcomes.{Holds, Typed, holds_then, holds_each, holds_gather, holds_weaker, typed_after}
+use Rattle.qc_typing.proofs.Outcomes.{Holds, Typed, holds_then, holds_gather, holds_weaker, typed_after}
 use Rattle.qc_typing.proofs.Outcomes.{typed_each, typed_map, typed_then, typed_when}
-use Rattle.qc_typing.proofs.Values.{Any, At, Fields, below_type, bool_holds, closed_as, coll_holds, coll_layer, make_coll}
-use Rattle.qc_typing.proofs.Values.{nothing_bottom, opened}
+use Rattle.qc_typing.proofs.Values.{Any, At, Fields, below_type, bool_holds, closed_as, coll_holds, coll_layer}
+use Rattle.qc_typing.proofs.Values.{make_coll, nothing_bottom, opened}
 use Rattle.qc_typing.proofs.RecordValues.{rec_holds}
 use Rattle.qc_typing.proofs.BinarySound.{binary_sound}
 use Rattle.qc_nra.specs.FormTypes.{Typing, map_type, select_type, records, pairs_type, product_type, join_type}

@@ -1,15 +1,14 @@
 -- The type that a tree has is right for it.
-use Rattle.std.proofs.Common.{◌≡◌, ℕ, List, Option, Some, IsTrue, sym, subst}
-use Rattle.std.specs.Prelude.{option_and_then, Result, Ok, Err, IfOk}
+use Rattle.std.proofs.Common.{◌≡◌, ℕ, List, Option, IsTrue, sym, subst}
+use Rattle.std.specs.Prelude.{Result, Ok, Err, IfOk}
 use Rattle.qc_containers.specs.Pairs.{lookup}
-use Rattle.qc_data.specs.Outcome.{Mode, any_size, and_then}
+use Rattle.qc_data.specs.Outcome.{Mode, any_size}
 use Rattle.qc_data.specs.declared.data.Datum.{Datum}
 use Rattle.qc_types.specs.declared.ty.Ty.{Ty}
 use Rattle.qc_types.specs.Classes.{Defs}
 use Rattle.qc_types.specs.Schemas.{SchemaOf, WorldOf, global, good_classes, is_world}
 use Rattle.qc_ops.specs.Operands.{found}
 use Rattle.qc_ops.specs.Operators.{unary, binary}
-use Rattle.qc_lang.specs.Keeping.{IsOf}
 use Rattle.qc_typing.specs.Tables.{unary_type, binary_type}
 use Rattle.qc_typing.specs.Typed.{HasType, IsTyped}
 use Rattle.qc_typing.proofs.Outcomes.{Typed, typed_all, typed_some, typed_then}
@@ -20,7 +19,7 @@ use Rattle.qc_nra.specs.declared.tree.Nra.{Nra}
 use Rattle.qc_nra.specs.declared.tree.Nra.TheOpen.{Nra-F}
 use Rattle.qc_nra.specs.declared.tree.Nra.TheViews.{roll-Nra}
 use Rattle.qc_nra.specs.declared.tree.Nra.TheFolds.{fold-roll-Nra, map-Nra}
-use Rattle.qc_nra.specs.FormTypes.{Typing, map_type, select_type, product_type, join_type, default_type}
+use Rattle.qc_nra.specs.FormTypes.{Typing, map_type, select_type, product_type, join_type}
 use Rattle.qc_nra.specs.Forms.{Meaning, map_of, select_of, product_of, join_of}
 use Rattle.qc_nra.specs.Laws.{agrees_nra}
 use Rattle.qc_nra.specs.Meaning.{form, nra}

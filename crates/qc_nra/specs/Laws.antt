@@ -1,6 +1,6 @@
--- The laws of trees: they have a node; a value within bounds is the value at any size, and a value at any size is within
--- bounds the same or Range.
-use Rattle.std.proofs.Common.{◌≡◌, ◌≤◌, ◌+◌, ℕ, ℤ, arith, Bool, true, false, cond, List, [], ◌∷◌, refl}
+-- The laws of trees. Each has a node. A value within bounds is the value at any size, and a value at any size is
+-- within bounds the same or Range.
+use Rattle.std.proofs.Common.{◌≡◌, ◌≤◌, ℕ, ℤ, arith, Bool, true, false, cond, List, [], ◌∷◌, refl}
 use Rattle.qc_data.specs.Kinds.{as_coll}
 use Rattle.qc_data.specs.Outcome.{any_size, within, Outcome, Halts, Stuck, and_then, gather, each, alone, Agrees}
 use Rattle.qc_data.specs.declared.data.Datum.{Datum}
@@ -8,7 +8,6 @@ use Rattle.qc_data.specs.declared.data.Datum.TheOpen.{Datum-F}
 use Rattle.qc_data.specs.declared.data.Datum.TheViews.{out-Datum}
 use Rattle.qc_data.proofs.Outcomes.{agrees_same, agrees_then, agrees_gather, agrees_after}
 use Rattle.qc_ops.specs.Operands.{as_bool, as_rec, bag, found}
-use Rattle.qc_ops.specs.Operators.{unary, binary}
 use Rattle.qc_ops.proofs.OperatorLaws.{agrees_unary, agrees_binary}
 use Rattle.qc_types.specs.Schemas.{WorldOf, global}
 use Rattle.qc_nra.specs.declared.tree.Nra.{Nra}

@@ -1,7 +1,6 @@
 -- What trees of the algebra mean, by mode and world, their input and their environment.
 use Rattle.std.specs.Prelude.{cond}
-use Rattle.qc_data.specs.Outcome.{Mode, Outcome, Value, and_then}
-use Rattle.qc_data.specs.declared.data.Datum.{Datum}
+use Rattle.qc_data.specs.Outcome.{Mode, Value, and_then}
 use Rattle.qc_ops.specs.Operands.{found}
 use Rattle.qc_ops.specs.Operators.{unary, binary}
 use Rattle.qc_types.specs.Schemas.{WorldOf, global}

@@ -1,9 +1,8 @@
 // What parts of values have, by their types, and types from types.
 ghost use Rattle.std.specs.Option.{option_copied};
-ghost use Rattle.std.specs.Prelude.{◌≡◌, ◌&&◌, Some, None, cond, is_some, option_and_then, option_map, IfOk};
+ghost use Rattle.std.specs.Prelude.{◌≡◌, option_map, IfOk};
 ghost use Rattle.qc_containers.specs.Pairs.{lookup};
 ghost use Rattle.qc_types.specs.declared.ty.Ty.TheVariants as ty;
-ghost use Rattle.qc_types.specs.Types.{sub};
 ghost use Rattle.qc_nra.specs.inner.Infers.{Infers};
 ghost use Rattle.qc_nra.specs.FormTypes.{default_type, pairs_type, product_type, records};
 ghost use Rattle.qc_nra.specs.PartTypes.{bound_by, sides_of};

@@ -1,6 +1,5 @@
 -- What private functions answer where a type is wanted.
 use Rattle.std.specs.Prelude.{◌≡◌, Option, Some, None, Result, Ok, Err}
-use Rattle.std.specs.Borrow.{Bor}
 use Rattle.qc_nra.specs.declared.untyped.NoType.{NoType}
 use Rattle.qc_nra.specs.declared.untyped.NoType.TheVariants.{Untyped, Memory}
 

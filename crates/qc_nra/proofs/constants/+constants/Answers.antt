@@ -1,4 +1,4 @@
-use Rattle.std.proofs.Common.{◌≡◌, [], None, Some, ap, arith, ◌∙◌, drop, map, refl, rules, sym, take, true}
+use Rattle.std.proofs.Common.{◌≡◌, None, Some, ap, arith, ◌∙◌, map, refl, rules, sym, true}
 use Rattle.std.proofs.lemmas.List.{drop_all, take_all}
 use Rattle.std.specs.Prelude.{option_map}
 use Rattle.qc_containers.proofs.Putting.{Rising-next-map}

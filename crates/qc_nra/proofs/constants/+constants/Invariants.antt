@@ -1,5 +1,5 @@
 use Rattle.std.proofs.Common.{◌≡◌, drop, map, take}
-use Rattle.qc_containers.specs.Rising.{on_value, Rising}
+use Rattle.qc_containers.specs.Rising.{on_value}
 use Rattle.qc_types.specs.declared.ty.Ty.TheVariants as ty
 use Rattle.qc_nra.specs.ConstantTypes.{all_typed, datum_type, join_all, or_bottom}
 use Rattle.qc_nra.proofs.constants.+constants.Given as goal

@@ -1,6 +1,3 @@
-use Rattle.std.proofs.Common.{◌≡◌, rules}
-use Rattle.std.specs.Prelude.{IfOk}
-use Rattle.qc_nra.specs.Typing.{nra_type}
 use Rattle.qc_nra.proofs.Sound.{answered}
 use Rattle.qc_nra.proofs.inferring.infer.Goals as goal
 
