@@ -1,0 +1,6 @@
+pub mod ConstantsSound
+pub mod DatumTypes
+pub mod FormsSound
+pub mod Layers
+pub mod Mapped
+pub mod Sound

@@ -1,0 +1,10 @@
+pub mod inner
+pub mod Forms
+pub mod Meaning
+pub mod Sizes
+pub mod Laws
+pub mod Spelling
+pub mod PartTypes
+pub mod ConstantTypes
+pub mod FormTypes
+pub mod Typing
