@@ -130,6 +130,7 @@ def build(folder):
     crate = folder / "crates" / "bench_ground"
     (crate / "src").mkdir(parents=True)
     (crate / "src" / "main.rt").write_text(PROGRAM)
+    subprocess.run(["rt", "fmt"], cwd=crate, check=True)
     subprocess.run(["rt", "ci"], cwd=folder, check=True, stdout=subprocess.DEVNULL)
     return crate / "out" / "bench_ground"
 

@@ -109,6 +109,7 @@ def build(folder, top):
         ignored = shutil.ignore_patterns("out", "must-fail")
         shutil.copytree(top / "crates" / name, folder / "crates" / name, ignore=ignored)
     (crate / "src" / "main.rt").write_text(MAIN)
+    subprocess.run(["rt", "fmt"], cwd=crate, check=True)
     subprocess.run(["rt", "ci"], cwd=folder, check=True, stdout=subprocess.DEVNULL)
     return crate / "out" / "bench_parsing"
 
