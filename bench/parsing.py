@@ -76,6 +76,9 @@ fn main(rt: HostRuntime) -> io::Result<()> {
     let mut shelf = FileShelf::new(&rt);
     let mut query = Vec::new(rt.alloc());
     let _ = shelf.fetch("query", 1 << 16, &mut query);
+    if query.len() > 1 << 16 {
+        return Ok(());
+    }
     match scan(rt.alloc(), &query, Table::Oql) {
         Ok(words) if is_kept => keep(&rt, &words, times),
         Ok(words) => time(&rt, &words, times),
