@@ -76,7 +76,7 @@ fn main(rt: HostRuntime) -> io::Result<()> {
     let mut shelf = FileShelf::new(&rt);
     let mut query = Vec::new(rt.alloc());
     let _ = shelf.fetch("query", 1 << 16, &mut query);
-    if times == 0 || query.len() > 1 << 16 {
+    if (times == 0 && !is_kept) || query.len() > 1 << 16 {
         return Ok(());
     }
     match scan(rt.alloc(), &query, Table::Oql) {
