@@ -2,24 +2,22 @@
 """Prints a table of what reading, operators and queries over many rows cost, at n rows and at 2n, beside SQLite, jq and Python's json.
 
 It lies outside the gate: run it by hand after `rt ci`. It runs `bin/qcert`, and a program of its own, which it makes in a folder
-for temporary files over this checkout's crates; where these are proved and built, that takes a minute. The seconds of a row are those
+for temporary files over copies of this checkout's crates; where `rt ci` has proved these, that takes a minute. The seconds of a row are those
 beyond reading the input, for the others too; a mark stands where another program has no call that does the same work. The most
-memory of the whole process stands beside the bytes of the input. A machine that does other work makes the times longer.
+memory of the whole process stands beside the bytes of the input; what reading holds is what a second reading adds. A machine that does other work makes the times longer.
 """
 import json
-import os
 import pathlib
 import resource
 import shutil
 import subprocess
 import sys
 import tempfile
-import threading
 import time
 
 TOP = pathlib.Path(__file__).resolve().parent.parent
 BELOW = ["qc_containers", "qc_data", "qc_keys", "qc_io", "qc_types", "qc_ops", "qc_schema"]
-PROGRAM = """//! Reads the input `input` in the schema `schema`; then groups its rows where a word says so; then waits for the file `go`.
+PROGRAM = """//! Reads the input `input` in the schema `schema` as many times as it has words, and keeps what it reads; where a word is `group`, groups its rows.
 #![tactic(auto)]
 
 use qc_containers::Name;
@@ -48,25 +46,25 @@ fn grouped(alloc: Global, world: &World) -> bool {
 
 fn main(rt: HostRuntime) {
     let alloc = rt.alloc();
-    let words = match env::args(&rt) {
-        Ok(words) => words.count(),
-        Err(_) => 0,
-    };
     let mut shelf = FileShelf::new(&rt);
     let mut schema = Vec::new(alloc);
     let mut input = Vec::new(alloc);
     let _ = shelf.fetch("schema", 1 << 20, &mut schema);
     let _ = shelf.fetch("input", 1 << 24, &mut input);
-    let Ok(schema) = read_schema(alloc, &schema) else {
+    let (Ok(schema), Ok(words)) = (read_schema(alloc, &schema), env::args(&rt)) else {
         return;
     };
-    let Ok(world) = read_input(alloc, &schema, &input) else {
-        return;
-    };
-    if words < 2 || grouped(alloc, &world) {
-        let _ = println!(rt; "done");
+    let mut worlds = Vec::new(alloc);
+    let mut done = 0u32;
+    for word in words.skip(1) {
+        if let Ok(world) = read_input(alloc, &schema, &input) {
+            if word.as_str() != "group" || grouped(alloc, &world) {
+                done = done.saturating_add(1);
+            }
+            let _ = worlds.push(world);
+        }
     }
-    let _ = shelf.fetch("go", 1, &mut input);
+    let _ = println!(rt; "{done}");
 }
 """
 
@@ -121,28 +119,37 @@ READ = {"sqlite": "select json_valid(readfile('input'))", "jq": "length"}
 
 
 def build(folder):
-    """The program, made in the folder over this checkout's crates."""
+    """The program, made in the folder over copies of this checkout's crates. What `rt ci` has proved here is kept."""
     lines = [line for line in (TOP / "crates.txt").read_text().splitlines() if line.split(":")[0] in BELOW]
     lines.append("bench_ground: " + " ".join(BELOW))
     (folder / "crates.txt").write_text("\n".join(lines) + "\n")
     shutil.copy(TOP / "HANDLES", folder)
+    for name in BELOW:
+        ignored = shutil.ignore_patterns("out", "must-fail")
+        shutil.copytree(TOP / "crates" / name, folder / "crates" / name, ignore=ignored)
     crate = folder / "crates" / "bench_ground"
     (crate / "src").mkdir(parents=True)
-    for name in BELOW:
-        (folder / "crates" / name).symlink_to(TOP / "crates" / name)
     (crate / "src" / "main.rt").write_text(PROGRAM)
-    subprocess.run(["rt", "run"], cwd=crate, check=True, stdout=subprocess.DEVNULL)
+    subprocess.run(["rt", "fmt"], cwd=crate, check=True)
+    subprocess.run(["rt", "ci"], cwd=folder, check=True, stdout=subprocess.DEVNULL)
     return crate / "out" / "bench_ground"
 
 
+LAUNCH = """import resource, subprocess, sys, time
+started = time.monotonic()
+status = subprocess.call(sys.argv[1:], stdout=subprocess.DEVNULL)
+print(status, time.monotonic() - started, resource.getrusage(resource.RUSAGE_CHILDREN).ru_maxrss * 1024)
+"""
+
+
 def measure(words, folder):
-    """Seconds and most bytes of memory of a call, which is to end with status 0."""
-    started = time.monotonic()
-    process = subprocess.Popen(words, cwd=folder, stdout=subprocess.DEVNULL)
-    _, status, usage = os.wait4(process.pid, 0)
-    if status != 0:
-        sys.exit("bench: status %d of %s" % (status, " ".join(map(str, words))))
-    return time.monotonic() - started, usage.ru_maxrss * 1024
+    """Seconds and most bytes of memory of a call, which is to end with status 0. A small process makes the call, since the
+    system counts what a caller holds as the called one's."""
+    words = [str(word) for word in words]
+    told = subprocess.run([sys.executable, "-c", LAUNCH] + words, cwd=folder, check=True, capture_output=True, text=True).stdout.split()
+    if told[0] != "0":
+        sys.exit("bench: status %s of %s" % (told[0], " ".join(words)))
+    return float(told[1]), int(told[2])
 
 
 def best(words, folder):
@@ -189,36 +196,21 @@ def row(cells):
 
 
 def reading_rows(program, folder):
-    """Reading inputs of 1 to 16 MiB: seconds, and memory at the peak and once read, as multiples of the file."""
-    row(["reading", "seconds", "peak, times the file", "once read, times the file", "jq, seconds", "Python, seconds"])
+    """Reading inputs of 1 to 16 MiB: seconds, and memory at the peak and what is held then, as multiples of the file."""
+    row(["reading", "seconds", "peak, times the file", "held, times the file", "jq, seconds", "Python, seconds"])
     row(["---"] * 6)
     (folder / "schema").write_text(EMPLOYEES)
     for mebibytes in (1, 4, 16):
-        text = employees(int((mebibytes << 20) / 46.3))
+        text = employees((mebibytes << 20) // 48)
         (folder / "input").write_text(text)
-        seconds, peak, kept = read_and_wait(program, folder)
+        seconds, once = best([program, "read"], folder)
+        _, twice = best([program, "read", "read"], folder)
         started = time.monotonic()
         json.loads(text)
         python = time.monotonic() - started
         jq = best(["jq", "-c", READ["jq"], "input"], folder)[0]
-        row(["%.1f MiB" % (len(text) / 2**20), "%.2f" % seconds, "%.1f" % (peak / len(text)), "%.1f" % (kept / len(text)), "%.2f" % jq, "%.2f" % python])
-
-
-def read_and_wait(program, folder):
-    """Seconds until the input is read, the most bytes until then, and the bytes that are held then."""
-    go = folder / "go"
-    go.unlink(missing_ok=True)
-    os.mkfifo(go)
-    started = time.monotonic()
-    process = subprocess.Popen([str(program)], cwd=folder, stdout=subprocess.PIPE)
-    process.stdout.readline()
-    seconds = time.monotonic() - started
-    status = dict(line.split(":\t", 1) for line in pathlib.Path("/proc/%d/status" % process.pid).read_text().splitlines() if ":\t" in line)
-    threading.Thread(target=lambda: go.write_text("x"), daemon=True).start()
-    process.wait()
-    go.unlink()
-    size = lambda name: int(status[name].split()[0]) * 1024
-    return seconds, size("VmHWM"), size("VmRSS")
+        cells = [seconds, once / len(text), (twice - once) / len(text), jq, python]
+        row(["%.1f MiB" % (len(text) / 2**20), "%.2f" % cells[0], "%.1f" % cells[1], "%.1f" % cells[2], "%.2f" % cells[3], "%.2f" % cells[4]])
 
 
 def query_rows(folder):
@@ -237,12 +229,11 @@ def query_rows(folder):
 def group_row(program, folder):
     """Groups of rows by a member: no query of OQL reaches the operator, so the program calls it."""
     (folder / "schema").write_text(MEMBERS)
-    (folder / "go").write_text("x")
     seconds = []
     for count in (200000, 100000):
         text = members(count)
         (folder / "input").write_text(text)
-        reading, _ = best([program], folder)
+        reading, _ = best([program, "read"], folder)
         whole, most = best([program, "group"], folder)
         seconds.append(whole - reading)
     jq = ".rs | group_by(.b) | length"
