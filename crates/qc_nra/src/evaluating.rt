@@ -233,14 +233,14 @@ fn joined(
     body: &Nra,
     world: &World,
     env: &Datum,
-    record: &Datum,
+    first: &Datum,
 ) -> Result<Items, Halt>
-    ensures { Gives (forms.joined (nra bits64 world.now body.now) env.now record.now) result }
+    ensures { Gives (forms.joined (nra bits64 world.now body.now) env.now first.now) result }
 {
-    fields_of(record)?;
-    let members = eval_at(alloc, body, world, record, env)?;
+    fields_of(first)?;
+    let members = eval_at(alloc, body, world, first, env)?;
     let items = items_of(&members)?;
-    beside(alloc, items.as_slice(), record)
+    beside(alloc, items.as_slice(), first)
 }
 
 // A collection that has members, or else the one that a tree gives.

@@ -87,12 +87,12 @@ fn pairs(alloc: Global, first: &[Datum], second: &[Datum]) -> Result<Items, Halt
 
 // A record with each of the members.
 #[tactic(auto, using(qc_data::proofs::Outcomes::gather_is), unfolding(crate::specs::Forms::beside))]
-pub(crate) fn beside(alloc: Global, members: &[Datum], record: &Datum) -> Result<Items, Halt>
-    ensures { Gives (forms.beside members.now record.now) result }
+pub(crate) fn beside(alloc: Global, members: &[Datum], first: &Datum) -> Result<Items, Halt>
+    ensures { Gives (forms.beside members.now first.now) result }
 {
     let mut all = Items::new(alloc);
     for member in members {
-        all.add(apply2(alloc, &Binary::Cat, record, member)?)?;
+        all.add(apply2(alloc, &Binary::Cat, first, member)?)?;
     }
     Ok(all)
 }
