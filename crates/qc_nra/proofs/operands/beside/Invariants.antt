@@ -7,5 +7,5 @@ use Rattle.qc_nra.proofs.operands.beside.Given as goal
 
 abbrev pub invariant-loop-member : goal.invariant-loop-member
 invariant-loop-member l =
-    beside l.members l.record
-    ≡ gather_from (λ y. alone (concatenation l.record y)) l.all (drop l.member-index l.members)
+    beside l.members l.first
+    ≡ gather_from (λ y. alone (concatenation l.first y)) l.all (drop l.member-index l.members)
