@@ -1,6 +1,7 @@
 //! Rows of data files: what a row says, what it wants beside what came, and what is told of a file.
 #![tactic(auto)]
 
+mod answers;
 mod compared;
 mod file;
 mod form;
@@ -8,10 +9,13 @@ mod odd;
 mod report;
 mod texts;
 mod values;
+mod worlds;
 
+pub use answers::{Answers, outcome_tree, type_tree, word_tree};
 pub use compared::{Compared, fault_text, tree_text, truth_text, type_or_none};
 pub use file::{Rows, run};
 pub use form::{Form, count, integer, items, members, pair, truth, word};
 pub use odd::Odd;
 pub use texts::Texts;
 pub use values::{classes, datum, good_classes, name, ty};
+pub use worlds::{datum_or_none, schema, world};

@@ -1,9 +1,11 @@
-//! The program that tries rows on operators: their values and their types.
+//! The program that tries rows on operators, their values and their types, and on trees of the algebra.
 #![tactic(auto)]
 
+mod algebra;
 mod operator;
+mod tree;
 
-use crate::operator::{binary, unary};
+use crate::operator::{binary, parameters, unary};
 use qc_data::{Datum, Halt, Json, enc};
 use qc_ops::{Binary, Unary, apply1, apply2};
 use qc_rows::{
@@ -33,6 +35,7 @@ impl Rows for Operators {
         let came = match kind {
             "operators" => value(alloc, row)?,
             "types" => type_of(alloc, row)?,
+            "algebra" => return algebra::tried(alloc, texts, row),
             _ => return Err(Odd::Form),
         };
         Compared::of(alloc, texts, row, came.as_str())
@@ -46,7 +49,7 @@ fn value(alloc: Global, row: &mut Form) -> Result<String, Odd> {
     let classes = good_classes(alloc, row)?;
     match binary(word) {
         Some(operator) => value_of_two(alloc, &operator, operands),
-        None => value_of_one(alloc, &classes, &unary(alloc, word, row)?, operands),
+        None => value_of_one(alloc, &classes, &unary_of(alloc, word, row)?, operands),
     }
 }
 
@@ -83,7 +86,7 @@ fn type_of(alloc: Global, row: &mut Form) -> Result<String, Odd> {
     let classes = good_classes(alloc, row)?;
     match binary(word) {
         Some(operator) => type_of_two(alloc, &classes, &operator, operands),
-        None => type_of_one(alloc, &classes, &unary(alloc, word, row)?, operands),
+        None => type_of_one(alloc, &classes, &unary_of(alloc, word, row)?, operands),
     }
 }
 
@@ -107,6 +110,15 @@ fn type_of_two(
     let a = ty(alloc, a)?;
     let b = ty(alloc, b)?;
     type_or_none(alloc, type2(alloc, classes, operator, &a, &b)?)
+}
+
+// The operator on one value that the row names, with its parameters.
+fn unary_of(alloc: Global, word: &str, row: &mut Form) -> Result<Unary, Odd> {
+    let mut taken = Vec::new(alloc);
+    for name in parameters(word) {
+        taken.push(row.member(name)?)?;
+    }
+    unary(alloc, word, &taken)
 }
 
 fn one(operands: &Json) -> Result<&Json, Odd> {

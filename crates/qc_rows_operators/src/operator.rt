@@ -1,52 +1,74 @@
 // The operator that a row names, with its parameters.
 use qc_containers::{Chars, Name};
+use qc_data::Json;
 use qc_ops::{Binary, Divisor, Keys, Names, Unary};
-use qc_rows::{Form, Odd, integer, items, name, pair, word};
+use qc_rows::{Odd, integer, items, name, pair, word as word_of};
 use std::alloc::Global;
 
-/// The operator on one value that the word names, with the row's parameters.
-pub fn unary(alloc: Global, word: &str, row: &mut Form) -> Result<Unary, Odd> {
-    match plain_unary(word) {
-        Some(operator) => Ok(operator),
-        None => unary_with(alloc, word, row),
+/// The names of the parameters of an operator on one value, in order.
+pub fn parameters(word: &str) -> &'static [&'static str] {
+    match word {
+        "divby" | "modby" => &["divisor"],
+        "rec" | "dot" | "brand" | "cast" => &["name"],
+        "project" => &["names"],
+        "group" => &["name", "names"],
+        "order" => &["keys"],
+        "like" => &["pattern"],
+        _ => &[],
     }
 }
 
-fn plain_unary(word: &str) -> Option<Unary> {
-    match word {
-        "not" => Some(Unary::Not),
-        "neg" => Some(Unary::Neg),
-        "abs" => Some(Unary::Abs),
-        "count" => Some(Unary::Count),
-        "sum" => Some(Unary::Sum),
-        "min" => Some(Unary::Min),
-        "max" => Some(Unary::Max),
-        "avg" => Some(Unary::Avg),
-        "element" => Some(Unary::Element),
-        "flatten" => Some(Unary::Flatten),
-        "distinct" => Some(Unary::Distinct),
-        "single" => Some(Unary::Single),
-        "left" => Some(Unary::Left),
-        "right" => Some(Unary::Right),
-        "unbrand" => Some(Unary::Unbrand),
-        _ => None,
-    }
-}
-
-fn unary_with(alloc: Global, word: &str, row: &mut Form) -> Result<Unary, Odd> {
-    match word {
-        "divby" => Ok(Unary::DivBy(divisor(row)?)),
-        "modby" => Ok(Unary::ModBy(divisor(row)?)),
-        "rec" => Ok(Unary::Rec(named(alloc, row)?)),
-        "dot" => Ok(Unary::Dot(named(alloc, row)?)),
-        "brand" => Ok(Unary::Brand(named(alloc, row)?)),
-        "cast" => Ok(Unary::Cast(named(alloc, row)?)),
-        "project" => Ok(Unary::Project(names(alloc, row)?)),
-        "group" => Ok(Unary::Group(named(alloc, row)?, names(alloc, row)?)),
-        "order" => Ok(Unary::Order(keys(alloc, row)?)),
-        "like" => Ok(Unary::Like(Chars::of(alloc, row.word("pattern")?)?)),
+/// The operator on one value that the word names, with its parameters.
+pub fn unary(alloc: Global, word: &str, parameters: &[&Json]) -> Result<Unary, Odd> {
+    match parameters {
+        [] => plain_unary(word),
+        [parameter] => unary_with(alloc, word, parameter),
+        [name, names] => group(alloc, word, name, names),
         _ => Err(Odd::Form),
     }
+}
+
+fn plain_unary(word: &str) -> Result<Unary, Odd> {
+    match word {
+        "not" => Ok(Unary::Not),
+        "neg" => Ok(Unary::Neg),
+        "abs" => Ok(Unary::Abs),
+        "count" => Ok(Unary::Count),
+        "sum" => Ok(Unary::Sum),
+        "min" => Ok(Unary::Min),
+        "max" => Ok(Unary::Max),
+        "avg" => Ok(Unary::Avg),
+        "element" => Ok(Unary::Element),
+        "flatten" => Ok(Unary::Flatten),
+        "distinct" => Ok(Unary::Distinct),
+        "single" => Ok(Unary::Single),
+        "left" => Ok(Unary::Left),
+        "right" => Ok(Unary::Right),
+        "unbrand" => Ok(Unary::Unbrand),
+        _ => Err(Odd::Form),
+    }
+}
+
+fn unary_with(alloc: Global, word: &str, parameter: &Json) -> Result<Unary, Odd> {
+    match word {
+        "divby" => Ok(Unary::DivBy(divisor(parameter)?)),
+        "modby" => Ok(Unary::ModBy(divisor(parameter)?)),
+        "rec" => Ok(Unary::Rec(named(alloc, parameter)?)),
+        "dot" => Ok(Unary::Dot(named(alloc, parameter)?)),
+        "brand" => Ok(Unary::Brand(named(alloc, parameter)?)),
+        "cast" => Ok(Unary::Cast(named(alloc, parameter)?)),
+        "project" => Ok(Unary::Project(names_of(alloc, parameter)?)),
+        "order" => Ok(Unary::Order(keys(alloc, parameter)?)),
+        "like" => Ok(Unary::Like(Chars::of(alloc, word_of(parameter)?)?)),
+        _ => Err(Odd::Form),
+    }
+}
+
+fn group(alloc: Global, word: &str, name: &Json, names: &Json) -> Result<Unary, Odd> {
+    if word != "group" {
+        return Err(Odd::Form);
+    }
+    Ok(Unary::Group(named(alloc, name)?, names_of(alloc, names)?))
 }
 
 /// The operator on two values that the word names.
@@ -73,31 +95,32 @@ pub fn binary(word: &str) -> Option<Binary> {
     }
 }
 
-fn divisor(row: &mut Form) -> Result<Divisor, Odd> {
-    match Divisor::of(integer(row.member("divisor")?)?) {
+fn divisor(json: &Json) -> Result<Divisor, Odd> {
+    match Divisor::of(integer(json)?) {
         Some(divisor) => Ok(divisor),
         None => Err(Odd::Form),
     }
 }
 
-fn named(alloc: Global, row: &mut Form) -> Result<Name, Odd> {
-    name(alloc, row.word("name")?)
+/// The name that the tree is.
+pub fn named(alloc: Global, json: &Json) -> Result<Name, Odd> {
+    name(alloc, word_of(json)?)
 }
 
-fn names(alloc: Global, row: &mut Form) -> Result<Names, Odd> {
+fn names_of(alloc: Global, json: &Json) -> Result<Names, Odd> {
     let mut names = Names::new(alloc);
-    for json in items(row.member("names")?)? {
-        names.add(name(alloc, word(json)?)?)?;
+    for json in items(json)? {
+        names.add(named(alloc, json)?)?;
     }
     Ok(names)
 }
 
-fn keys(alloc: Global, row: &mut Form) -> Result<Keys, Odd> {
+fn keys(alloc: Global, json: &Json) -> Result<Keys, Odd> {
     let mut keys = Keys::new(alloc);
-    for json in items(row.member("keys")?)? {
+    for json in items(json)? {
         let (key, direction) = pair(json)?;
-        let key = name(alloc, word(key)?)?;
-        match word(direction)? {
+        let key = named(alloc, key)?;
+        match word_of(direction)? {
             "asc" => keys.add((key, true))?,
             "desc" => keys.add((key, false))?,
             _ => return Err(Odd::Form),
