@@ -41,32 +41,33 @@ fn form(alloc: Global, items: &Jsons, room: &mut u64) -> Result<Nra, Odd>
 {
     match items.as_slice() {
         [] => Err(Odd::Form),
-        [first, rest @ ..] => worded(alloc, word(first)?, rest, room),
+        [first, ..] => worded(alloc, word(first)?, items, room),
     }
 }
 
+// The form of the word that the items begin with.
 #[cycle(tree)]
-fn worded(alloc: Global, word: &str, rest: &[Json], room: &mut u64) -> Result<Nra, Odd>
+fn worded(alloc: Global, word: &str, items: &Jsons, room: &mut u64) -> Result<Nra, Odd>
     ensures { IfOk result (λ made. size made + room.new ≤ room.old) }
 {
     take(room)?;
-    match (pair_of(word), rest) {
-        (Some(pair), [a, b]) => {
+    match (pair_of(word), items.as_slice()) {
+        (Some(pair), [_, a, b]) => {
             let a = part(alloc, a, room)?;
             let b = part(alloc, b, room)?;
             Ok(paired(pair, a, b))
         }
         (Some(_), _) => Err(Odd::Form),
-        (None, [a, b, c]) if word == "if" => {
+        (None, [_, a, b, c]) if word == "if" => {
             let a = part(alloc, a, room)?;
             let b = part(alloc, b, room)?;
             let c = part(alloc, c, room)?;
             Ok(Nra::If(a, b, c))
         }
-        (None, [a]) if word == "mapenv" => Ok(Nra::MapEnv(part(alloc, a, room)?)),
-        (None, rest) => match word {
-            "in" | "env" | "const" | "global" => leaf(alloc, word, rest),
-            _ => on_one(alloc, word, rest, room),
+        (None, [_, a]) if word == "mapenv" => Ok(Nra::MapEnv(part(alloc, a, room)?)),
+        (None, all) => match word {
+            "in" | "env" | "const" | "global" => leaf(alloc, word, all),
+            _ => on_one(alloc, word, items, room),
         },
     }
 }
@@ -94,27 +95,27 @@ fn part(alloc: Global, json: &Json, room: &mut u64) -> Result<Boxed<Nra>, Odd>
 }
 
 // A form without parts.
-fn leaf(alloc: Global, word: &str, rest: &[Json]) -> Result<Nra, Odd>
+fn leaf(alloc: Global, word: &str, items: &[Json]) -> Result<Nra, Odd>
     ensures { IfOk result (λ made. size made ≡ 1) }
 {
-    match rest {
-        [] if word == "in" => Ok(Nra::Input),
-        [] if word == "env" => Ok(Nra::Env),
-        [json] if word == "const" => Ok(Nra::Const(datum(alloc, json)?)),
-        [json] if word == "global" => Ok(Nra::Global(named(alloc, json)?)),
+    match items {
+        [_] if word == "in" => Ok(Nra::Input),
+        [_] if word == "env" => Ok(Nra::Env),
+        [_, json] if word == "const" => Ok(Nra::Const(datum(alloc, json)?)),
+        [_, json] if word == "global" => Ok(Nra::Global(named(alloc, json)?)),
         _ => Err(Odd::Form),
     }
 }
 
 // An operator on one part, which stands behind its parameters.
 #[cycle(tree)]
-fn on_one(alloc: Global, word: &str, rest: &[Json], room: &mut u64) -> Result<Nra, Odd>
+fn on_one(alloc: Global, word: &str, items: &Jsons, room: &mut u64) -> Result<Nra, Odd>
     ensures { IfOk result (λ made. size made + room.new ≤ 1 + room.old) }
 {
-    match rest {
-        [a] => with(alloc, word, &[], a, room),
-        [parameter, a] => with(alloc, word, &[parameter], a, room),
-        [name, names, a] => with(alloc, word, &[name, names], a, room),
+    match items.as_slice() {
+        [_, a] => with(alloc, word, &[], a, room),
+        [_, parameter, a] => with(alloc, word, &[parameter], a, room),
+        [_, name, names, a] => with(alloc, word, &[name, names], a, room),
         _ => Err(Odd::Form),
     }
 }
