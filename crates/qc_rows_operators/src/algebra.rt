@@ -19,10 +19,31 @@ const MOST_NODES: u64 = 1_000_000;
 pub fn tried(alloc: Global, texts: &Texts, row: &mut Form) -> Result<Compared, Odd> {
     let mut room = MOST_NODES;
     let tree = tree(alloc, row.member("tree")?, &mut room)?;
+    answered(alloc, texts, row, tree)
+}
+
+// What the row wants of the calls, and what they give.
+fn answered(alloc: Global, texts: &Texts, row: &mut Form, tree: Nra) -> Result<Compared, Odd>
+    requires { size tree ≤ 2 ^ 100 }
+{
     let mut answers = Answers::of(alloc, row)?;
-    count(alloc, &tree, &mut answers)?;
-    call(alloc, &schema(alloc, texts, row)?, &tree, row, &mut answers)?;
+    all_calls(alloc, texts, row, &tree, &mut answers)?;
     answers.compared(alloc)
+}
+
+// The calls.
+fn all_calls(
+    alloc: Global,
+    texts: &Texts,
+    row: &mut Form,
+    tree: &Nra,
+    answers: &mut Answers,
+) -> Result<(), Odd>
+    requires { size tree.now ≤ 2 ^ 100 }
+{
+    count(alloc, tree, answers)?;
+    let schema = schema(alloc, texts, row)?;
+    call(alloc, &schema, tree, row, answers)
 }
 
 // The number of nodes.
