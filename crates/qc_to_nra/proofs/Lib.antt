@@ -1,0 +1,17 @@
+pub mod Environments
+pub mod Folding
+pub mod KeptLaws
+pub mod Names
+pub mod NraForms
+pub mod NraSizes
+pub mod OqlAnswered
+pub mod OqlFormsKept
+pub mod OqlInduction
+pub mod OqlKept
+pub mod OqlOperators
+pub mod OqlSelect
+pub mod OqlSelected
+pub mod OqlSizes
+pub mod OqlTreeForms
+pub mod SortsInTurn
+pub mod SourceRows

@@ -1,0 +1,12 @@
+use Rattle.std.proofs.Common.{◌≡◌, [], vec_len}
+use Rattle.qc_data.specs.declared.data.Datum.TheVariants.{Rec}
+use Rattle.qc_nra.specs.declared.tree.Nra.TheVariants as nra
+use Rattle.qc_to_nra.specs.inner.OqlForms.{field_before, folded}
+use Rattle.qc_to_nra.proofs.oql_forms.record_of.Given as goal
+
+abbrev pub invariant-loop-label : goal.invariant-loop-label
+invariant-loop-label l =
+    folded field_before l.fields.items l.made ≡ folded field_before l.fn.fields.items (nra.Const (Rec []))
+
+abbrev pub decreases-loop-label : goal.decreases-loop-label
+decreases-loop-label l = vec_len l.fields

@@ -1,0 +1,375 @@
+// The trees of the algebra for expressions. The scope has the names that the environment has as its fields.
+ghost use Rattle.std.specs.Prelude.{◌≡◌, map, option_map, IfOk};
+ghost use Rattle.qc_nra.specs.declared.tree.Nra.TheVariants as nra;
+ghost use Rattle.qc_oql_tree.specs.FormMeanings as meanings;
+ghost use Rattle.qc_oql_tree.specs.OperatorMeanings.{branding, division};
+ghost use Rattle.qc_oql_tree.specs.inner.Pairings.{on_one, pairing_of};
+ghost use Rattle.qc_ops.specs.declared.op.Unary.TheVariants as one;
+ghost use Rattle.qc_to_nra.specs.inner.OqlForms as forms;
+ghost use Rattle.qc_to_nra.specs.inner.OqlTrees as trees;
+ghost use Rattle.qc_to_nra.specs.inner.Scopes.{names_of};
+
+use crate::building::{comp, conditional, either, map_over, name_of, select, unary};
+use crate::oql_forms::{
+    at_row, bag_of, decided, distinct_if, joined, of_one, of_two, record_of, sorted_by, under,
+};
+use crate::scope::{Scope, is_bound};
+use qc_containers::{Chars, Memory};
+use qc_data::Datum;
+use qc_nra::Nra;
+use qc_ops::{Divisor, Unary as OnOne};
+use qc_oql_tree::{
+    Binary, Branding, Constant, Direction, Division, Filter, Key, Named, Oql, Order, Quantifier,
+    Select, Unary, branding, division, on_one, pairing_of,
+};
+use std::alloc::Global;
+
+// An expression.
+#[cycle(lowering)]
+#[tactic(auto, using(crate::proofs::OqlTreeForms::by_form))]
+pub(crate) fn tree_of(alloc: Global, scope: &Scope, of: &Oql) -> Result<Nra, Memory>
+    ensures { IfOk result (λ made. made ≡ trees.oql_tree of.now (names_of scope.now)) }
+{
+    match of {
+        Oql::Name(_, name) => name_tree(alloc, scope, name),
+        Oql::Whole(_, n) => Ok(Nra::Const(Datum::Int(*n))),
+        Oql::Text(_, text) => Ok(Nra::Const(Datum::Text(text.copy(alloc)?))),
+        Oql::Constant(_, constant) => Ok(Nra::Const(constant_of(*constant))),
+        Oql::Struct(_, fields) => structured(alloc, scope, fields.as_slice()),
+        Oql::Bag(_, members) => collected(alloc, scope, members.as_slice()),
+        Oql::Unary(_, operator, a) => of_operand(alloc, scope, *operator, a.get()),
+        Oql::Binary(_, operator, a, b) => {
+            let left = tree_of(alloc, scope, a.get())?;
+            with_left(alloc, scope, b.get(), *operator, left)
+        }
+        Oql::Divide(_, operator, a, k) => of_division(alloc, scope, *operator, a.get(), *k),
+        Oql::Like(_, a, pattern) => of_like(alloc, scope, a.get(), pattern),
+        Oql::Dot(_, a, label) => of_dot(alloc, scope, a.get(), label),
+        Oql::Brand(_, operator, class, a) => of_class(alloc, scope, *operator, class, a.get()),
+        Oql::Match(_, a, left, right) => {
+            let left = bound(alloc, scope, left.get())?;
+            let sides = with_right(alloc, scope, right.get(), left)?;
+            matched(alloc, scope, a.get(), sides)
+        }
+        Oql::If(_, test, yes, no) => {
+            let test = tree_of(alloc, scope, test.get())?;
+            let yes = tree_of(alloc, scope, yes.get())?;
+            last_branch(alloc, scope, no.get(), test, yes)
+        }
+        Oql::Quantified(_, quantifier, source, test) => {
+            let holds = tested(alloc, scope, test.get(), &source.get().name)?;
+            quantified(alloc, scope, source.get(), *quantifier, holds)
+        }
+        Oql::Select(_, select) => selected(alloc, scope, select.get()),
+    }
+}
+
+// An operator of one operand.
+#[cycle(lowering)]
+fn of_operand(alloc: Global, scope: &Scope, operator: Unary, a: &Oql) -> Result<Nra, Memory>
+    ensures { IfOk result
+        (λ made. made ≡ forms.one_tree (on_one operator) (trees.oql_tree a.now (names_of scope.now))) }
+{
+    let a = tree_of(alloc, scope, a)?;
+    of_one(alloc, on_one(operator), a)
+}
+
+// An operator of two operands, by the tree for the left one.
+#[cycle(lowering)]
+fn with_left(
+    alloc: Global,
+    scope: &Scope,
+    b: &Oql,
+    operator: Binary,
+    left: Nra,
+) -> Result<Nra, Memory>
+    ensures { IfOk result
+        (λ made. made ≡ forms.two_tree (pairing_of operator) left (trees.oql_tree b.now (names_of scope.now))) }
+{
+    let right = tree_of(alloc, scope, b)?;
+    of_two(alloc, pairing_of(operator), left, right)
+}
+
+// A division by a literal. A typed query has no divisor 0; one is answered as if memory were wanting.
+#[cycle(lowering)]
+fn of_division(
+    alloc: Global,
+    scope: &Scope,
+    operator: Division,
+    a: &Oql,
+    k: i64,
+) -> Result<Nra, Memory>
+    ensures { IfOk result
+        (λ made. made ≡ nra.Unary (division operator k) (trees.oql_tree a.now (names_of scope.now))) }
+{
+    let Some(divisor) = Divisor::of(k) else {
+        return Err(Memory);
+    };
+    let a = tree_of(alloc, scope, a)?;
+    unary(alloc, division(operator, divisor), a)
+}
+
+// A text against a pattern.
+#[cycle(lowering)]
+fn of_like(alloc: Global, scope: &Scope, a: &Oql, pattern: &Chars) -> Result<Nra, Memory>
+    ensures { IfOk result
+        (λ made. made ≡ nra.Unary (one.Like pattern.now) (trees.oql_tree a.now (names_of scope.now))) }
+{
+    let pattern = pattern.copy(alloc)?;
+    let a = tree_of(alloc, scope, a)?;
+    unary(alloc, OnOne::Like(pattern), a)
+}
+
+// A field of a record.
+#[cycle(lowering)]
+fn of_dot(alloc: Global, scope: &Scope, a: &Oql, label: &Chars) -> Result<Nra, Memory>
+    ensures { IfOk result
+        (λ made. made ≡ nra.Unary (one.Dot label.now) (trees.oql_tree a.now (names_of scope.now))) }
+{
+    let label = name_of(alloc, label)?;
+    let a = tree_of(alloc, scope, a)?;
+    unary(alloc, OnOne::Dot(label), a)
+}
+
+// A function of a class.
+#[cycle(lowering)]
+fn of_class(
+    alloc: Global,
+    scope: &Scope,
+    operator: Branding,
+    class: &Chars,
+    a: &Oql,
+) -> Result<Nra, Memory>
+    ensures { IfOk result
+        (λ made. made ≡ nra.Unary (branding operator class.now) (trees.oql_tree a.now (names_of scope.now))) }
+{
+    let class = name_of(alloc, class)?;
+    let a = tree_of(alloc, scope, a)?;
+    unary(alloc, branding(operator, class), a)
+}
+
+// A choice by the side of the input, with the body for right values.
+#[cycle(lowering)]
+fn with_right(alloc: Global, scope: &Scope, body: &Named, left: Nra) -> Result<Nra, Memory>
+    ensures { IfOk result
+        (λ made. made ≡ nra.Either left (forms.bound_tree (trees.named_tree body.now) (names_of scope.now))) }
+{
+    let right = bound(alloc, scope, body)?;
+    either(alloc, left, right)
+}
+
+// A choice by the side of an operand.
+#[cycle(lowering)]
+fn matched(alloc: Global, scope: &Scope, a: &Oql, sides: Nra) -> Result<Nra, Memory>
+    ensures { IfOk result (λ made. made ≡ nra.Comp sides (trees.oql_tree a.now (names_of scope.now))) }
+{
+    let a = tree_of(alloc, scope, a)?;
+    comp(alloc, sides, a)
+}
+
+// A condition with its branches, of which the first is there.
+#[cycle(lowering)]
+fn last_branch(alloc: Global, scope: &Scope, no: &Oql, test: Nra, yes: Nra) -> Result<Nra, Memory>
+    ensures { IfOk result (λ made. made ≡ nra.If test yes (trees.oql_tree no.now (names_of scope.now))) }
+{
+    let no = tree_of(alloc, scope, no)?;
+    conditional(alloc, test, yes, no)
+}
+
+// A quantifier, by the tree for its condition on a member.
+#[cycle(lowering)]
+fn quantified(
+    alloc: Global,
+    scope: &Scope,
+    source: &Named,
+    quantifier: Quantifier,
+    holds: Nra,
+) -> Result<Nra, Memory>
+    ensures { IfOk result (λ made. made
+        ≡ forms.decided_tree quantifier (nra.Map holds ((trees.named_tree source.now).1 (names_of scope.now)))) }
+{
+    let members = named_tree(alloc, scope, source)?;
+    let truths = map_over(alloc, holds, members)?;
+    decided(alloc, quantifier, truths)
+}
+
+// A name: a field of the environment, where it is bound, or else a global.
+fn name_tree(alloc: Global, scope: &Scope, name: &Chars) -> Result<Nra, Memory>
+    ensures { IfOk result (λ made. made ≡ forms.name_tree name.now (names_of scope.now)) }
+{
+    let bound = is_bound(scope, name);
+    let name = name_of(alloc, name)?;
+    if bound {
+        unary(alloc, OnOne::Dot(name), Nra::Env)
+    } else {
+        Ok(Nra::Global(name))
+    }
+}
+
+// `true`, `false` or `nil`.
+fn constant_of(constant: Constant) -> Datum
+    ensures { result ≡ meanings.constant constant }
+{
+    match constant {
+        Constant::True => Datum::Bool(true),
+        Constant::False => Datum::Bool(false),
+        Constant::Nil => Datum::Unit,
+    }
+}
+
+// The expression beside a name.
+#[cycle(lowering)]
+#[tactic(auto, using(crate::proofs::OqlTreeForms::named_is))]
+pub(crate) fn named_tree(alloc: Global, scope: &Scope, named: &Named) -> Result<Nra, Memory>
+    ensures { IfOk result (λ made. made ≡ (trees.named_tree named.now).1 (names_of scope.now)) }
+{
+    tree_of(alloc, scope, &named.of)
+}
+
+// A body with its name bound to the input.
+#[cycle(lowering)]
+#[tactic(auto, using(crate::proofs::OqlTreeForms::named_is))]
+fn bound(alloc: Global, scope: &Scope, body: &Named) -> Result<Nra, Memory>
+    ensures { IfOk result (λ made. made ≡ forms.bound_tree (trees.named_tree body.now) (names_of scope.now)) }
+{
+    let inner = Scope::Bind(&body.name, &*scope);
+    let a = tree_of(alloc, &inner, &body.of)?;
+    under(alloc, &body.name, a)
+}
+
+// A condition with a name bound to the input.
+#[cycle(lowering)]
+fn tested(alloc: Global, scope: &Scope, test: &Oql, name: &Chars) -> Result<Nra, Memory>
+    ensures { IfOk result (λ made. made ≡ forms.bound_tree (name.now, trees.oql_tree test.now) (names_of scope.now)) }
+{
+    let inner = Scope::Bind(&*name, &*scope);
+    let a = tree_of(alloc, &inner, test)?;
+    under(alloc, name, a)
+}
+
+// The record of the fields.
+#[cycle(lowering)]
+#[tactic(auto, using(crate::proofs::OqlTreeForms::named_is))]
+fn structured(alloc: Global, scope: &Scope, fields: &[Named]) -> Result<Nra, Memory>
+    ensures { IfOk result (λ made. made ≡ forms.struct_tree (map trees.named_tree fields.now) (names_of scope.now)) }
+{
+    let mut made = Vec::new(alloc);
+    for field in fields {
+        let label = name_of(alloc, &field.name)?;
+        let value = tree_of(alloc, scope, &field.of)?;
+        match made.push((label, value)) {
+            Ok(()) => {}
+            Err(_) => return Err(Memory),
+        }
+    }
+    record_of(alloc, made)
+}
+
+// The collection of the members.
+#[cycle(lowering)]
+fn collected(alloc: Global, scope: &Scope, members: &[Oql]) -> Result<Nra, Memory>
+    ensures { IfOk result (λ made. made ≡ forms.bag_tree (map trees.oql_tree members.now) (names_of scope.now)) }
+{
+    let mut made = Vec::new(alloc);
+    for member in members {
+        let value = tree_of(alloc, scope, member)?;
+        match made.push(value) {
+            Ok(()) => {}
+            Err(_) => return Err(Memory),
+        }
+    }
+    bag_of(alloc, made)
+}
+
+// What stands behind `select`.
+#[cycle(lowering)]
+#[tactic(auto, using(crate::proofs::OqlTreeForms::select_is))]
+fn selected(alloc: Global, scope: &Scope, select: &Select) -> Result<Nra, Memory>
+    ensures { IfOk result (λ made. made ≡ trees.part_tree select.now (names_of scope.now)) }
+{
+    let sources = select.sources.as_slice();
+    let rows = rows_of(alloc, scope, sources)?;
+    let inner = Scope::Sources(sources, &*scope);
+    let rows = filtered(alloc, &inner, &select.filter, rows)?;
+    let rows = ordered(alloc, &inner, &select.order, rows)?;
+    let values = values_of(alloc, &inner, &select.value, rows)?;
+    distinct_if(alloc, select.distinct, values)
+}
+
+// The value on each row.
+#[cycle(lowering)]
+fn values_of(alloc: Global, scope: &Scope, value: &Oql, rows: Nra) -> Result<Nra, Memory>
+    ensures { IfOk result
+        (λ made. made ≡ nra.Map (forms.at_row (trees.oql_tree value.now (names_of scope.now))) rows) }
+{
+    let value = tree_of(alloc, scope, value)?;
+    let value = at_row(alloc, value)?;
+    map_over(alloc, value, rows)
+}
+
+// The rows that the sources make, of the one row that is the environment.
+#[cycle(lowering)]
+#[tactic(auto, using(crate::proofs::OqlTreeForms::named_is))]
+fn rows_of(alloc: Global, scope: &Scope, sources: &[Named]) -> Result<Nra, Memory>
+    ensures { IfOk result (λ made. made ≡ forms.rows_tree (map trees.named_tree sources.now) (names_of scope.now)
+        (nra.Unary one.Single nra.Env)) }
+{
+    let mut rows = unary(alloc, OnOne::Single, Nra::Env)?;
+    for (at, source) in sources.iter().enumerate() {
+        let inner = Scope::Sources(&sources[..at], &*scope);
+        let members = tree_of(alloc, &inner, &source.of)?;
+        rows = joined(alloc, &source.name, members, rows)?;
+    }
+    Ok(rows)
+}
+
+// The rows that the condition keeps, if there is one.
+#[cycle(lowering)]
+#[tactic(auto, using(crate::proofs::OqlTreeForms::filter_is))]
+fn filtered(alloc: Global, scope: &Scope, filter: &Option<Filter>, rows: Nra) -> Result<Nra, Memory>
+    ensures { IfOk result
+        (λ made. made ≡ forms.filtered_tree (option_map trees.filter_tree filter.now) (names_of scope.now) rows) }
+{
+    match filter {
+        None => Ok(rows),
+        Some(filter) => {
+            let test = tree_of(alloc, scope, &filter.test)?;
+            let test = at_row(alloc, test)?;
+            select(alloc, test, rows)
+        }
+    }
+}
+
+// The rows in order, if there are keys.
+#[cycle(lowering)]
+#[tactic(auto, using(crate::proofs::OqlTreeForms::order_is))]
+fn ordered(alloc: Global, scope: &Scope, order: &Option<Order>, rows: Nra) -> Result<Nra, Memory>
+    ensures { IfOk result
+        (λ made. made ≡ forms.ordered_tree (option_map trees.order_tree order.now) (names_of scope.now) rows) }
+{
+    match order {
+        None => Ok(rows),
+        Some(order) => {
+            let keys = keys_of(alloc, scope, order.keys.as_slice())?;
+            sorted_by(alloc, keys, rows)
+        }
+    }
+}
+
+// The keys with their directions.
+#[cycle(lowering)]
+#[tactic(auto, using(crate::proofs::OqlTreeForms::key_is))]
+fn keys_of(alloc: Global, scope: &Scope, keys: &[Key]) -> Result<Vec<(Nra, Direction)>, Memory>
+    ensures { IfOk result
+        (λ made. made.items ≡ map (λ key. (key.0 (names_of scope.now), key.1)) (map trees.key_tree keys.now)) }
+{
+    let mut made = Vec::new(alloc);
+    for key in keys {
+        let value = tree_of(alloc, scope, &key.of)?;
+        match made.push((value, key.direction)) {
+            Ok(()) => {}
+            Err(_) => return Err(Memory),
+        }
+    }
+    Ok(made)
+}

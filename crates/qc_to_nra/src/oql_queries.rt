@@ -1,0 +1,48 @@
+// The trees of the algebra for queries.
+ghost use Rattle.std.specs.Prelude.{◌≡◌, ◌≤◌, ◌*◌, [], map, IfOk};
+ghost use Rattle.qc_data.specs.Outcome.{IsKept, Mode};
+ghost use Rattle.qc_data.specs.declared.data.Datum.TheVariants.{Rec, Unit as Nothing};
+ghost use Rattle.qc_nra.specs.Meaning.{nra};
+ghost use Rattle.qc_nra.specs.Sizes.{size};
+ghost use Rattle.qc_oql_tree.specs.Meaning as meaning;
+ghost use Rattle.qc_oql_tree.specs.Sizes.{query_size};
+ghost use Rattle.qc_types.specs.Schemas.{WorldOf};
+ghost use Rattle.qc_to_nra.specs.inner.OqlTrees as trees;
+ghost use Rattle.qc_to_nra.specs.inner.Scopes.{names_of};
+
+use crate::building::env_comp;
+use crate::oql_expressions::{named_tree, tree_of};
+use crate::oql_forms::binding;
+use crate::scope::Scope;
+use qc_containers::Memory;
+use qc_nra::Nra;
+use qc_oql_tree::{Named, Oql, Query};
+use std::alloc::Global;
+
+// The tree for a query, which keeps its value in every mode and world and is at most 32 times as large.
+pub(crate) fn query_tree(alloc: Global, query: &Query) -> Result<Nra, Memory>
+    ensures same { IfOk result (λ made. made ≡ trees.query_tree query.now) }
+    ensures keeps { IfOk result
+        (λ made. (m : Mode) (w : WorldOf) → IsKept (meaning.query m w query.now) (nra m w made Nothing (Rec []))) }
+    ensures size { IfOk result (λ made. size made ≤ 32 * query_size query.now) }
+{
+    defined(alloc, &Scope::Empty, query.defines.as_slice(), &query.body)
+}
+
+// The expression with what is defined, each definition bound for the later ones.
+#[tactic(auto, using(crate::proofs::OqlTreeForms::named_name))]
+fn defined(alloc: Global, scope: &Scope, defines: &[Named], body: &Oql) -> Result<Nra, Memory>
+    ensures { IfOk result (λ made. made
+        ≡ trees.defined_tree (map trees.named_tree defines.now) (trees.oql_tree body.now) (names_of scope.now)) }
+{
+    match defines {
+        [] => tree_of(alloc, scope, body),
+        [first, rest @ ..] => {
+            let value = named_tree(alloc, scope, first)?;
+            let bound = binding(alloc, &first.name, value)?;
+            let inner = Scope::Bind(&first.name, &*scope);
+            let rest = defined(alloc, &inner, rest, body)?;
+            env_comp(alloc, rest, bound)
+        }
+    }
+}
