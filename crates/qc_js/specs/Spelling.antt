@@ -1,5 +1,6 @@
 -- Which tree a text spells.
-use Rattle.std.specs.Prelude.{◌≡◌, ℕ, ℤ, pos, ◌-ℤ◌, Bool, true, false, if◌then◌else◌, ◌==◌, ◌||◌, IsTrue, List, [], ◌∷◌}
+use Rattle.std.specs.Prelude.{◌≡◌, ℕ, ℤ, pos, ◌-ℤ◌, Bool, true, false, if◌then◌else◌, ◌==◌, ◌||◌}
+use Rattle.std.specs.Prelude.{IsTrue, List, [], ◌∷◌}
 use Rattle.std.specs.Prelude.{◌++◌, take, decimal}
 use Rattle.std.specs.Char.{is_ascii_alphabetic, is_ascii_alphanumeric}
 use Rattle.std.specs.Str.{bytes_eq}
@@ -62,9 +63,10 @@ pub data Scans : List ℕ → List Token → Type 0 where
   end : Scans [] []
   blank : (b : ℕ) (text : List ℕ) (tokens : List Token) → IsTrue (is_blank b) → Scans text tokens
       → Scans (b ∷ text) tokens
-  comment : (text : List ℕ) (tokens : List Token) → Scans (past_line text) tokens → Scans (47 ∷ 47 ∷ text) tokens
-  word : (b : ℕ) (text : List ℕ) (tokens : List Token) → IsTrue (is_ascii_alphabetic b) → Scans (past_word text) tokens
-      → Scans (b ∷ text) (Word (b ∷ word_part text) ∷ tokens)
+  comment : (text : List ℕ) (tokens : List Token) → Scans (past_line text) tokens
+      → Scans (47 ∷ 47 ∷ text) tokens
+  word : (b : ℕ) (text : List ℕ) (tokens : List Token) → IsTrue (is_ascii_alphabetic b)
+      → Scans (past_word text) tokens → Scans (b ∷ text) (Word (b ∷ word_part text) ∷ tokens)
   int : (n : ℤ) (text rest : List ℕ) (tokens : List Token) → BeginsInt text n rest → Scans rest tokens
       → Scans text (Int n ∷ tokens)
   mark : (b : ℕ) (text : List ℕ) (tokens : List Token) → IsTrue (is_mark b) → Scans text tokens

@@ -16,7 +16,7 @@ use Rattle.qc_types.proofs.RowLaws.{both}
 use Rattle.qc_ops.specs.Operands.{as_bool, as_text}
 use Rattle.qc_ops.specs.Sorting.{has_value, one_kind}
 use Rattle.qc_typing.specs.Checking.{and_check, or_fault, need}
-use Rattle.qc_typing.specs.Rows.{is_atom}
+use Rattle.qc_typing.specs.FieldTypes.{is_atom}
 use Rattle.qc_typing.specs.Typed.{HasType}
 use Rattle.qc_typing.proofs.Outcomes.{Holds, holds_each, holds_then}
 use Rattle.qc_typing.proofs.BagValues.{firsts_all, map_all, pass_all, sort_all}

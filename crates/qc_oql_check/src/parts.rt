@@ -3,7 +3,7 @@ ghost use Rattle.std.specs.Option.{option_copied};
 ghost use Rattle.std.specs.Prelude.{◌≡◌, IfOk, option_map};
 ghost use Rattle.qc_types.specs.declared.ty.Ty.TheVariants as ty;
 ghost use Rattle.qc_typing.specs.Kinds.{when};
-ghost use Rattle.qc_typing.specs.Rows.{is_atom};
+ghost use Rattle.qc_typing.specs.FieldTypes.{is_atom};
 ghost use Rattle.qc_oql_tree.specs.PartTypes.{bound_by, join_all, sides_of};
 ghost use Rattle.qc_oql_tree.specs.OperatorTypes.{constant_type};
 

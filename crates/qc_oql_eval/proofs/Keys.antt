@@ -10,7 +10,7 @@ use Rattle.qc_oql_tree.specs.Bindings.{Bindings}
 use Rattle.qc_oql_tree.specs.SelectMeaning.{KeyedRow, are_sortable, keyed, ordered_by, sorted}
 use Rattle.qc_oql_tree.specs.Meaning.{key}
 use Rattle.qc_oql_tree.proofs.MeaningForms.{key_is}
-use Rattle.qc_oql_eval.specs.inner.Rows.{directions}
+use Rattle.qc_oql_eval.specs.inner.SelectRows.{directions}
 
 module _ (m : Mode) (w : WorldOf) where
   directions_is : (keys : List Key) → map (λ key. key.1) (map (key m w) keys) ≡ directions keys

@@ -1,7 +1,7 @@
 pub mod Columns
 pub mod Held
 pub mod Kept
-pub mod Rows
+pub mod SelectRows
 pub mod Scopes
 pub mod Selected
 pub mod SortKinds

@@ -9,7 +9,7 @@ ghost use Rattle.qc_ops.specs.inner.Columns.{behind, GivesRefs};
 ghost use Rattle.qc_ops.specs.Operands.{only_if};
 ghost use Rattle.qc_ops.specs.Sorting.{directed, one_kind};
 ghost use Rattle.qc_oql_eval.specs.inner.SortKinds.{is_of};
-ghost use Rattle.qc_oql_eval.specs.inner.Rows.{keyed_rows, directions};
+ghost use Rattle.qc_oql_eval.specs.inner.SelectRows.{keyed_rows, directions};
 ghost use Rattle.qc_oql_tree.specs.SelectMeaning.{are_sortable, is_ascending, keys_cmp, sorted};
 ghost use Rattle.qc_oql_eval.specs.inner.Columns.{value_at};
 

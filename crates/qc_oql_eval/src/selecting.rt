@@ -5,7 +5,7 @@ ghost use Rattle.qc_ops.specs.inner.Columns.{behind, GivesRefs};
 ghost use Rattle.qc_oql_eval.specs.inner.Scopes.{bindings_of};
 ghost use Rattle.qc_oql_eval.specs.inner.Selected.{of_kept};
 ghost use Rattle.qc_oql_tree.specs.Meaning as meaning;
-ghost use Rattle.qc_oql_eval.specs.inner.Rows.{GivesKeyed, GivesOneKeyed};
+ghost use Rattle.qc_oql_eval.specs.inner.SelectRows.{GivesKeyed, GivesOneKeyed};
 ghost use Rattle.qc_oql_tree.specs.SelectMeaning as selecting;
 
 use crate::expression::outcome;

@@ -4,7 +4,7 @@ use Rattle.std.proofs.Common.{◌∙◌, subst, eqb, Some, None}
 use Rattle.std.proofs.lemmas.Bool.{eq-eqb}
 use Rattle.std.proofs.Math.Bool.{or-true}
 use Rattle.qc_grammar.specs.inner.Derivations.{alternatives}
-use Rattle.qc_oql_tree.specs.Kinds.{among}
+use Rattle.qc_oql_tree.specs.TokenKinds.{among}
 use Rattle.qc_lex.specs.declared.token.Lexeme.{Lexeme}
 use Rattle.qc_oql_tree.specs.declared.tree.Direction.TheVariants as direction
 use Rattle.qc_oql_tree.specs.declared.tree.Named.{Named}
@@ -12,12 +12,12 @@ use Rattle.qc_oql_tree.specs.declared.tree.Oql.{Oql}
 use Rattle.qc_oql_tree.specs.declared.tree.Oql.TheVariants as tree
 use Rattle.qc_oql_tree.specs.declared.tree.Quantifier.TheVariants as quantifier
 use Rattle.qc_oql_tree.specs.Grammar as rel
-use Rattle.qc_oql_tree.specs.Kinds.{NAME, DISTINCT, IF, FOR, EXISTS, NOT, MINUS, TEXT}
-use Rattle.qc_oql_tree.specs.Kinds.{OPEN, CLOSE, COLON, STRUCT, BAG, MATCH}
-use Rattle.qc_oql_tree.specs.Kinds.{WHOLES, CONSTANTS, SETS, SUMS, DIVISIONS, TESTS, UNARIES, BINARIES, BRANDINGS}
-use Rattle.qc_oql_tree.specs.Kinds.{LABELS}
+use Rattle.qc_oql_tree.specs.TokenKinds.{NAME, DISTINCT, IF, FOR, EXISTS, NOT, MINUS, TEXT}
+use Rattle.qc_oql_tree.specs.TokenKinds.{OPEN, CLOSE, COLON, STRUCT, BAG, MATCH}
+use Rattle.qc_oql_tree.specs.TokenKinds.{WHOLES, CONSTANTS, SETS, SUMS, DIVISIONS, TESTS, UNARIES, BINARIES, BRANDINGS}
+use Rattle.qc_oql_tree.specs.TokenKinds.{LABELS}
 use Rattle.qc_oql_tree.specs.Lexemes.{kind, whole, content, lexeme_at}
-use Rattle.qc_oql_tree.specs.Operators.{constant_of, unary_of, binary_of, division_of, branding_of}
+use Rattle.qc_oql_tree.specs.OperatorTokens.{constant_of, unary_of, binary_of, division_of, branding_of}
 use Rattle.qc_oql_tree.specs.Trees as trees
 use Rattle.qc_oql_table.specs.declared.value.Value.TheVariants as value
 use Rattle.qc_oql_table.specs.Actions as actions

@@ -6,7 +6,7 @@ use Rattle.std.proofs.lemmas.Bool.{eqb-true, eq-eqb}
 use Rattle.qc_grammar.specs.declared.symbol.Symbol.{Symbol}
 use Rattle.qc_grammar.specs.declared.symbol.Symbol.TheVariants.{Token, Rule, Action}
 use Rattle.qc_grammar.specs.inner.Derivations.{Produces, alternatives}
-use Rattle.qc_oql_tree.specs.Kinds.{among}
+use Rattle.qc_oql_tree.specs.TokenKinds.{among}
 use Rattle.qc_lex.specs.declared.token.Lexeme.{Lexeme}
 use Rattle.qc_oql_tree.specs.declared.tree.Filter.{Filter}
 use Rattle.qc_oql_tree.specs.declared.tree.Key.{Key}
@@ -18,11 +18,11 @@ use Rattle.qc_oql_tree.specs.declared.tree.Select.{Select}
 use Rattle.qc_oql_tree.specs.declared.tree.Direction.{Direction}
 use Rattle.qc_oql_tree.specs.Grammar as rel
 use Rattle.qc_oql_tree.specs.Trees as trees
-use Rattle.qc_oql_tree.specs.Kinds.{NAME, DISTINCT, FROM, EXISTS, NOT, MINUS, TEXT, OPEN, CLOSE, STRUCT, BAG, MATCH}
-use Rattle.qc_oql_tree.specs.Kinds.{WHOLES, CONSTANTS, SETS, SUMS, DIVISIONS, TESTS, UNARIES, BINARIES, BRANDINGS}
-use Rattle.qc_oql_tree.specs.Kinds.{LABELS}
+use Rattle.qc_oql_tree.specs.TokenKinds.{NAME, DISTINCT, FROM, EXISTS, NOT, MINUS, TEXT, OPEN, CLOSE, STRUCT, BAG}
+use Rattle.qc_oql_tree.specs.TokenKinds.{MATCH, WHOLES, CONSTANTS, SETS, SUMS, DIVISIONS, TESTS, UNARIES, BINARIES}
+use Rattle.qc_oql_tree.specs.TokenKinds.{BRANDINGS, LABELS}
 use Rattle.qc_oql_tree.specs.Lexemes.{kind}
-use Rattle.qc_oql_tree.specs.Operators.{unary_of}
+use Rattle.qc_oql_tree.specs.OperatorTokens.{unary_of}
 use Rattle.qc_oql_table.specs.declared.value.Mark.{Mark}
 use Rattle.qc_oql_table.specs.declared.value.Value.TheVariants as value
 use Rattle.qc_oql_table.specs.Actions as actions

@@ -4,7 +4,7 @@ use Rattle.std.specs.Prelude.{codes}
 use Rattle.qc_grammar.proofs.Samples.{grammar_sampled}
 use Rattle.qc_lex.specs.declared.token.Lexeme.{Lexeme}
 use Rattle.qc_lex.specs.declared.token.Kind.TheVariants.{Word, Whole, Text, Mark}
-use Rattle.qc_oql_tree.specs.Kinds.{ZERO, NONZERO, TEXT}
+use Rattle.qc_oql_tree.specs.TokenKinds.{ZERO, NONZERO, TEXT}
 use Rattle.qc_oql_tree.specs.Lexemes.{kind, words, marks}
 use Rattle.qc_oql_table.specs.Table.{grammar}
 

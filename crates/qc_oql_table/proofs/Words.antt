@@ -13,9 +13,9 @@ use Rattle.qc_oql_tree.specs.declared.tree.Oql.TheVariants as tree
 use Rattle.qc_oql_tree.specs.declared.tree.Order.{Order}
 use Rattle.qc_oql_tree.specs.declared.tree.Select.{Select}
 use Rattle.qc_oql_tree.specs.Grammar as rel
-use Rattle.qc_oql_tree.specs.Kinds.{DISTINCT, EXISTS, FROM, CLOSE, COUNT, SUM, MIN, MAX, AVG, ELEMENT, FLATTEN, ABS}
-use Rattle.qc_oql_tree.specs.Kinds.{LEFT, RIGHT, UNBRAND, WHOLES, CONSTANTS, SETS, SUMS, DIVISIONS, TESTS, BINARIES}
-use Rattle.qc_oql_tree.specs.Kinds.{BRANDINGS, LABELS}
+use Rattle.qc_oql_tree.specs.TokenKinds.{DISTINCT, EXISTS, FROM, CLOSE, COUNT, SUM, MIN, MAX, AVG, ELEMENT, FLATTEN}
+use Rattle.qc_oql_tree.specs.TokenKinds.{ABS, LEFT, RIGHT, UNBRAND, WHOLES, CONSTANTS, SETS, SUMS, DIVISIONS, TESTS}
+use Rattle.qc_oql_tree.specs.TokenKinds.{BINARIES, BRANDINGS, LABELS}
 use Rattle.qc_oql_tree.specs.Trees as trees
 use Rattle.qc_oql_table.specs.declared.value.Value.{Value}
 use Rattle.qc_oql_table.specs.declared.value.Value.TheVariants as value

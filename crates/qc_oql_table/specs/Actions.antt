@@ -11,7 +11,7 @@ use Rattle.qc_oql_tree.specs.declared.tree.Quantifier.{Quantifier}
 use Rattle.qc_oql_tree.specs.declared.tree.Quantifier.TheVariants as quantifier
 use Rattle.qc_oql_tree.specs.declared.tree.Query.{Query}
 use Rattle.qc_oql_tree.specs.Lexemes as lexemes
-use Rattle.qc_oql_tree.specs.Operators.{constant_of, unary_of, binary_of, division_of, branding_of}
+use Rattle.qc_oql_tree.specs.OperatorTokens.{constant_of, unary_of, binary_of, division_of, branding_of}
 use Rattle.qc_oql_tree.specs.Trees as trees
 use Rattle.qc_oql_table.specs.declared.value.Value.TheVariants.{Mark, Name, Divisor, Tree, Members, Entries, Keys}
 use Rattle.qc_oql_table.specs.declared.value.Value.TheVariants.{Filtered, Ordered}

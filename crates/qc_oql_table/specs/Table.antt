@@ -2,12 +2,13 @@
 use Rattle.std.specs.Prelude.{ℕ, [], ◌∷◌}
 use Rattle.qc_grammar.specs.declared.symbol.Symbol.TheVariants.{Token, Rule, Action}
 use Rattle.qc_grammar.specs.inner.Derivations.{Rules}
-use Rattle.qc_oql_tree.specs.Kinds.{NAME, DEFINE, AS, SELECT, DISTINCT, FROM, WHERE, ORDER, BY, IN, ASC, DESC, IF}
-use Rattle.qc_oql_tree.specs.Kinds.{THEN, ELSE, EXISTS, FOR, ALL, TRUE, FALSE, NIL, STRUCT, BAG, MATCH, CAST, BRAND}
-use Rattle.qc_oql_tree.specs.Kinds.{OR, AND, NOT, LIKE, UNION, EXCEPT, INTERSECT, MOD, COUNT, SUM, MIN, MAX, AVG}
-use Rattle.qc_oql_tree.specs.Kinds.{ELEMENT, FLATTEN, ABS, LEFT, RIGHT, UNBRAND, ORELSE, LEAST, GREATEST, ZERO}
-use Rattle.qc_oql_tree.specs.Kinds.{NONZERO, TEXT, OPEN, CLOSE, COMMA, DOT, COLON, SEMICOLON, PLUS, MINUS, TIMES}
-use Rattle.qc_oql_tree.specs.Kinds.{DIVIDE, EQUAL, NOT_EQUAL, LESS, AT_MOST, GREATER, AT_LEAST, GLUE}
+use Rattle.qc_oql_tree.specs.TokenKinds.{NAME, DEFINE, AS, SELECT, DISTINCT, FROM, WHERE, ORDER, BY, IN, ASC, DESC, IF}
+use Rattle.qc_oql_tree.specs.TokenKinds.{THEN, ELSE, EXISTS, FOR, ALL, TRUE, FALSE, NIL, STRUCT, BAG, MATCH, CAST}
+use Rattle.qc_oql_tree.specs.TokenKinds.{BRAND, OR, AND, NOT, LIKE, UNION, EXCEPT, INTERSECT, MOD, COUNT, SUM, MIN}
+use Rattle.qc_oql_tree.specs.TokenKinds.{MAX, AVG, ELEMENT, FLATTEN, ABS, LEFT, RIGHT, UNBRAND, ORELSE, LEAST}
+use Rattle.qc_oql_tree.specs.TokenKinds.{GREATEST, ZERO, NONZERO, TEXT, OPEN, CLOSE, COMMA, DOT, COLON, SEMICOLON}
+use Rattle.qc_oql_tree.specs.TokenKinds.{PLUS, MINUS, TIMES, DIVIDE, EQUAL, NOT_EQUAL, LESS, AT_MOST, GREATER}
+use Rattle.qc_oql_tree.specs.TokenKinds.{AT_LEAST, GLUE}
 
 abbrev pub DO_NONE : ℕ
 DO_NONE = 0
@@ -324,8 +325,8 @@ grammar =
     ((Action DO_NONE ∷ Rule rule_defines ∷ Rule rule_expr ∷ Rule rule_end ∷ []) ∷
     []) ∷
     -- defines =
-    ((Token DEFINE ∷ Token NAME ∷ Action DO_NAME ∷ Token AS ∷ Rule rule_expr ∷ Action DO_ENTRY ∷ Token SEMICOLON ∷
-    Rule rule_defines ∷ []) ∷
+    ((Token DEFINE ∷ Token NAME ∷ Action DO_NAME ∷ Token AS ∷ Rule rule_expr ∷ Action DO_ENTRY ∷
+    Token SEMICOLON ∷ Rule rule_defines ∷ []) ∷
     [] ∷
     []) ∷
     -- end =
@@ -341,8 +342,8 @@ grammar =
     (Rule rule_q_but_distinct ∷ Rule rule_sources ∷ Action DO_SELECT ∷ []) ∷
     []) ∷
     -- sources =
-    ((Token FROM ∷ Action DO_NONE ∷ Rule rule_binding ∷ Action DO_ENTRY ∷ Rule rule_bindings ∷ Rule rule_filter ∷
-    Rule rule_order ∷ []) ∷
+    ((Token FROM ∷ Action DO_NONE ∷ Rule rule_binding ∷ Action DO_ENTRY ∷ Rule rule_bindings ∷
+    Rule rule_filter ∷ Rule rule_order ∷ []) ∷
     []) ∷
     -- bindings =
     ((Token COMMA ∷ Rule rule_binding ∷ Action DO_ENTRY ∷ Rule rule_bindings ∷ []) ∷
@@ -356,8 +357,8 @@ grammar =
     (Action DO_NO_FILTER ∷ []) ∷
     []) ∷
     -- order =
-    ((Token ORDER ∷ Action DO_MARK ∷ Token BY ∷ Action DO_NO_KEYS ∷ Rule rule_key ∷ Rule rule_keys ∷ Action DO_ORDER ∷
-    []) ∷
+    ((Token ORDER ∷ Action DO_MARK ∷ Token BY ∷ Action DO_NO_KEYS ∷ Rule rule_key ∷ Rule rule_keys ∷
+    Action DO_ORDER ∷ []) ∷
     (Action DO_NO_ORDER ∷ []) ∷
     []) ∷
     -- keys =
@@ -383,13 +384,15 @@ grammar =
     -- q_head =
     ((Token IF ∷ Action DO_MARK ∷ Rule rule_q ∷ Token THEN ∷ Rule rule_q ∷ Token ELSE ∷ Rule rule_q ∷
     Action DO_IF_ELSE ∷ []) ∷
-    (Token FOR ∷ Action DO_MARK ∷ Token ALL ∷ Rule rule_binding ∷ Token COLON ∷ Rule rule_q ∷ Action DO_FOR_ALL ∷ []) ∷
+    (Token FOR ∷ Action DO_MARK ∷ Token ALL ∷ Rule rule_binding ∷ Token COLON ∷ Rule rule_q ∷
+    Action DO_FOR_ALL ∷ []) ∷
     (Token EXISTS ∷ Action DO_MARK ∷ Rule rule_exists_rest ∷ []) ∷
     []) ∷
     -- exists_rest =
     ((Rule rule_binding ∷ Token COLON ∷ Rule rule_q ∷ Action DO_EXISTS ∷ []) ∷
-    (Token OPEN ∷ Rule rule_expr ∷ Token CLOSE ∷ Action DO_UNARY ∷ Rule rule_path_tail ∷ Rule rule_product_tail ∷
-    Rule rule_sum_tail ∷ Rule rule_sets_tail ∷ Rule rule_rel_tail ∷ Rule rule_and_tail ∷ Rule rule_or_tail ∷ []) ∷
+    (Token OPEN ∷ Rule rule_expr ∷ Token CLOSE ∷ Action DO_UNARY ∷ Rule rule_path_tail ∷
+    Rule rule_product_tail ∷ Rule rule_sum_tail ∷ Rule rule_sets_tail ∷ Rule rule_rel_tail ∷
+    Rule rule_and_tail ∷ Rule rule_or_tail ∷ []) ∷
     []) ∷
     -- or_but_exists =
     ((Rule rule_and_but_exists ∷ Rule rule_or_tail ∷ []) ∷
@@ -498,7 +501,8 @@ grammar =
     []) ∷
     -- product_tail =
     ((Token TIMES ∷ Action DO_MARK ∷ Rule rule_neg ∷ Action DO_BINARY ∷ Rule rule_product_tail ∷ []) ∷
-    (Rule rule_division ∷ Action DO_MARK ∷ Rule rule_divisor ∷ Action DO_DIVIDE ∷ Rule rule_product_tail ∷ []) ∷
+    (Rule rule_division ∷ Action DO_MARK ∷ Rule rule_divisor ∷ Action DO_DIVIDE ∷ Rule rule_product_tail ∷
+    []) ∷
     [] ∷
     []) ∷
     -- divisor =
@@ -514,7 +518,8 @@ grammar =
     (Rule rule_atom_but_exists ∷ []) ∷
     []) ∷
     -- atom_but_exists =
-    ((Token DISTINCT ∷ Action DO_MARK ∷ Token OPEN ∷ Rule rule_expr ∷ Token CLOSE ∷ Action DO_UNARY ∷ []) ∷
+    ((Token DISTINCT ∷ Action DO_MARK ∷ Token OPEN ∷ Rule rule_expr ∷ Token CLOSE ∷ Action DO_UNARY ∷
+    []) ∷
     (Rule rule_atom_but_both ∷ []) ∷
     []) ∷
     -- atom_but_both =
@@ -523,16 +528,19 @@ grammar =
     (Rule rule_constant ∷ Action DO_CONSTANT ∷ []) ∷
     (Token NAME ∷ Action DO_VARIABLE ∷ []) ∷
     (Token OPEN ∷ Rule rule_expr ∷ Token CLOSE ∷ []) ∷
-    (Token STRUCT ∷ Action DO_MARK ∷ Token OPEN ∷ Action DO_NONE ∷ Rule rule_fields ∷ Action DO_STRUCT ∷ []) ∷
-    (Token BAG ∷ Action DO_MARK ∷ Token OPEN ∷ Action DO_NO_MEMBERS ∷ Rule rule_members ∷ Action DO_BAG ∷ []) ∷
-    (Rule rule_unary ∷ Action DO_MARK ∷ Token OPEN ∷ Rule rule_expr ∷ Token CLOSE ∷ Action DO_UNARY ∷ []) ∷
-    (Rule rule_binary ∷ Action DO_MARK ∷ Token OPEN ∷ Rule rule_q ∷ Token COMMA ∷ Rule rule_q ∷ Token CLOSE ∷
-    Action DO_CALL ∷ []) ∷
-    (Rule rule_branding ∷ Action DO_MARK ∷ Token OPEN ∷ Token NAME ∷ Action DO_NAME ∷ Token COMMA ∷ Rule rule_expr ∷
-    Token CLOSE ∷ Action DO_BRAND ∷ []) ∷
-    (Token MATCH ∷ Action DO_MARK ∷ Token OPEN ∷ Rule rule_q ∷ Token COMMA ∷ Token LEFT ∷ Token NAME ∷ Action DO_NAME ∷
-    Token COLON ∷ Rule rule_q ∷ Token COMMA ∷ Token RIGHT ∷ Token NAME ∷ Action DO_NAME ∷ Token COLON ∷ Rule rule_q ∷
-    Token CLOSE ∷ Action DO_MATCH ∷ []) ∷
+    (Token STRUCT ∷ Action DO_MARK ∷ Token OPEN ∷ Action DO_NONE ∷ Rule rule_fields ∷ Action DO_STRUCT ∷
+    []) ∷
+    (Token BAG ∷ Action DO_MARK ∷ Token OPEN ∷ Action DO_NO_MEMBERS ∷ Rule rule_members ∷ Action DO_BAG ∷
+    []) ∷
+    (Rule rule_unary ∷ Action DO_MARK ∷ Token OPEN ∷ Rule rule_expr ∷ Token CLOSE ∷ Action DO_UNARY ∷
+    []) ∷
+    (Rule rule_binary ∷ Action DO_MARK ∷ Token OPEN ∷ Rule rule_q ∷ Token COMMA ∷ Rule rule_q ∷
+    Token CLOSE ∷ Action DO_CALL ∷ []) ∷
+    (Rule rule_branding ∷ Action DO_MARK ∷ Token OPEN ∷ Token NAME ∷ Action DO_NAME ∷ Token COMMA ∷
+    Rule rule_expr ∷ Token CLOSE ∷ Action DO_BRAND ∷ []) ∷
+    (Token MATCH ∷ Action DO_MARK ∷ Token OPEN ∷ Rule rule_q ∷ Token COMMA ∷ Token LEFT ∷ Token NAME ∷
+    Action DO_NAME ∷ Token COLON ∷ Rule rule_q ∷ Token COMMA ∷ Token RIGHT ∷ Token NAME ∷ Action DO_NAME ∷
+    Token COLON ∷ Rule rule_q ∷ Token CLOSE ∷ Action DO_MATCH ∷ []) ∷
     []) ∷
     -- fields =
     ((Token CLOSE ∷ []) ∷

@@ -22,7 +22,7 @@ use Rattle.qc_oql_tree.specs.declared.tree.Query as queries
 use Rattle.qc_oql_tree.specs.declared.tree.Select.{Select}
 use Rattle.qc_oql_tree.specs.Grammar as rel
 use Rattle.qc_oql_tree.specs.Lexemes.{whole, content, lexeme_at}
-use Rattle.qc_oql_tree.specs.Operators.{constant_of, unary_of, binary_of, division_of, branding_of}
+use Rattle.qc_oql_tree.specs.OperatorTokens.{constant_of, unary_of, binary_of, division_of, branding_of}
 use Rattle.qc_oql_tree.specs.Sizes.{size, filter_size, key_size, named_size, order_size, select_size, query_size}
 use Rattle.qc_oql_tree.specs.Trees.{named}
 use Rattle.qc_oql_text.proofs.Nodes.{option_size, size-Name, size-Whole, size-Text, size-Constant, size-Struct}

@@ -13,7 +13,7 @@ use Rattle.qc_types.specs.Schemas.{SchemaOf}
 use Rattle.qc_types.specs.Types.{sub}
 use Rattle.qc_typing.specs.Checking.{and_check, or_fault, need, each_checked}
 use Rattle.qc_typing.specs.Kinds.{when}
-use Rattle.qc_typing.specs.Rows.{is_atom}
+use Rattle.qc_typing.specs.FieldTypes.{is_atom}
 use Rattle.qc_oql_tree.specs.Bindings.{or_else_some}
 use Rattle.qc_oql_tree.specs.PartTypes.{bound_by, sides_of, join_all, FieldType, row_of}
 

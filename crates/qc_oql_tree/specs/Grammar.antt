@@ -1,5 +1,6 @@
 -- The grammar of OQL: from which token on and up to which one a tree is spelled, one case for each alternative.
-use Rattle.std.specs.Prelude.{◌≡◌, ℕ, suc, ℤ, neg_ℤ, Bool, true, false, List, [], ◌∷◌, ◌++◌, length, map, slice_get}
+use Rattle.std.specs.Prelude.{◌≡◌, ℕ, suc, ℤ, neg_ℤ, Bool, true, false, List, [], ◌∷◌, ◌++◌, length, map}
+use Rattle.std.specs.Prelude.{slice_get}
 use Rattle.std.specs.Prelude.{Option, Some, None}
 use Rattle.qc_lex.specs.declared.token.Lexeme.{Lexeme}
 use Rattle.qc_oql_tree.specs.declared.tree.Oql.{Oql}
@@ -13,14 +14,14 @@ use Rattle.qc_oql_tree.specs.declared.tree.Query as queries
 use Rattle.qc_oql_tree.specs.declared.tree.Quantifier.TheVariants as quantifier
 use Rattle.qc_oql_tree.specs.declared.tree.Direction.{Direction}
 use Rattle.qc_oql_tree.specs.declared.tree.Direction.TheVariants as direction
-use Rattle.qc_oql_tree.specs.Kinds.{NAME, DEFINE, AS, SELECT, DISTINCT, FROM, WHERE, ORDER, BY, IN, ASC, DESC, IF, THEN}
-use Rattle.qc_oql_tree.specs.Kinds.{ELSE, EXISTS, FOR, ALL, OR, AND, NOT, LIKE, STRUCT, BAG, MATCH, LEFT, RIGHT}
-use Rattle.qc_oql_tree.specs.Kinds.{NONZERO, TEXT, OPEN, CLOSE, COMMA, DOT, COLON, SEMICOLON, MINUS, TIMES}
-use Rattle.qc_oql_tree.specs.Kinds.{WHOLES, CONSTANTS, SETS, SUMS, DIVISIONS, TESTS, UNARIES, BINARIES, BRANDINGS}
-use Rattle.qc_oql_tree.specs.Kinds.{LABELS, among}
+use Rattle.qc_oql_tree.specs.TokenKinds.{NAME, DEFINE, AS, SELECT, DISTINCT, FROM, WHERE, ORDER, BY, IN, ASC, DESC, IF}
+use Rattle.qc_oql_tree.specs.TokenKinds.{THEN, ELSE, EXISTS, FOR, ALL, OR, AND, NOT, LIKE, STRUCT, BAG, MATCH, LEFT}
+use Rattle.qc_oql_tree.specs.TokenKinds.{RIGHT, NONZERO, TEXT, OPEN, CLOSE, COMMA, DOT, COLON, SEMICOLON, MINUS, TIMES}
+use Rattle.qc_oql_tree.specs.TokenKinds.{WHOLES, CONSTANTS, SETS, SUMS, DIVISIONS, TESTS, UNARIES, BINARIES, BRANDINGS}
+use Rattle.qc_oql_tree.specs.TokenKinds.{LABELS, among}
 use Rattle.qc_oql_tree.specs.Lexemes.{kind, whole, content, lexeme_at}
 use Rattle.qc_oql_tree.specs.Trees.{named, select, filter, order, key}
-use Rattle.qc_oql_tree.specs.Operators.{constant_of, unary_of, binary_of, division_of, branding_of}
+use Rattle.qc_oql_tree.specs.OperatorTokens.{constant_of, unary_of, binary_of, division_of, branding_of}
 
 module _ (tokens : List Lexeme) where
   -- the kind of the token at a place
@@ -96,7 +97,8 @@ module _ (tokens : List Lexeme) where
       if_else : {i j k l : ℕ} {x y z : Oql}
           → Is i IF → Q (suc i) j x → Is j THEN → Q (suc j) k y → Is k ELSE → Q (suc k) l z
           → Q i l (tree.If i x y z)
-      exists : {i j k : ℕ} {b : Named} {x : Oql} → Is i EXISTS → Binding (suc i) j b → Is j COLON → Q (suc j) k x
+      exists : {i j k : ℕ} {b : Named} {x : Oql}
+          → Is i EXISTS → Binding (suc i) j b → Is j COLON → Q (suc j) k x
           → Q i k (tree.Quantified i quantifier.Exists b x)
       for_all : {i j k : ℕ} {b : Named} {x : Oql}
           → Is i FOR → Is (suc i) ALL → Binding (suc (suc i)) j b → Is j COLON → Q (suc j) k x
@@ -143,7 +145,8 @@ module _ (tokens : List Lexeme) where
     -- product = product "*" neg | product ( "/" | "mod" ) divisor | neg
     pub data Product : ℕ → ℕ → Oql → Type 0 where
       times : {i j k : ℕ} {x y : Oql}
-          → Product i j x → Is j TIMES → Neg (suc j) k y → Product i k (tree.Binary j (binary_of (kind_at j)) x y)
+          → Product i j x → Is j TIMES → Neg (suc j) k y
+          → Product i k (tree.Binary j (binary_of (kind_at j)) x y)
       divided : {i j k : ℕ} {x : Oql} {n : ℤ}
           → Product i j x → Among j DIVISIONS → Divisor (suc j) k n
           → Product i k (tree.Divide j (division_of (kind_at j)) x n)
@@ -175,15 +178,16 @@ module _ (tokens : List Lexeme) where
       constant : {i : ℕ} → Among i CONSTANTS → Atom i (suc i) (tree.Constant i (constant_of (kind_at i)))
       name : {i : ℕ} → Is i NAME → Atom i (suc i) (tree.Name i (text_at i))
       parens : {i j : ℕ} {x : Oql} → Is i OPEN → Expr (suc i) j x → Is j CLOSE → Atom i (suc j) x
-      struct : {i j : ℕ} {fs : List Named} → Is i STRUCT → Is (suc i) OPEN → Fields (suc (suc i)) j fs → Is j CLOSE
+      struct : {i j : ℕ} {fs : List Named}
+          → Is i STRUCT → Is (suc i) OPEN → Fields (suc (suc i)) j fs → Is j CLOSE
           → Atom i (suc j) (tree.Struct i fs)
       bag : {i j : ℕ} {xs : List Oql} → Is i BAG → Is (suc i) OPEN → Members (suc (suc i)) j xs → Is j CLOSE
           → Atom i (suc j) (tree.Bag i xs)
       call : {i j : ℕ} {x : Oql} → Among i UNARIES → Is (suc i) OPEN → Expr (suc (suc i)) j x → Is j CLOSE
           → Atom i (suc j) (tree.Unary i (unary_of (kind_at i)) x)
       call_two : {i j k : ℕ} {x y : Oql}
-          → Among i BINARIES → Is (suc i) OPEN → Q (suc (suc i)) j x → Is j COMMA → Q (suc j) k y → Is k CLOSE
-          → Atom i (suc k) (tree.Binary i (binary_of (kind_at i)) x y)
+          → Among i BINARIES → Is (suc i) OPEN → Q (suc (suc i)) j x → Is j COMMA → Q (suc j) k y
+          → Is k CLOSE → Atom i (suc k) (tree.Binary i (binary_of (kind_at i)) x y)
       brand : {i j : ℕ} {x : Oql} → Among i BRANDINGS → Is (suc i) OPEN → Is (suc (suc i)) NAME
           → Is (suc (suc (suc i))) COMMA → Expr (suc (suc (suc (suc i)))) j x → Is j CLOSE
           → Atom i (suc j) (tree.Brand i (branding_of (kind_at i)) (text_at (suc (suc i))) x)
@@ -218,7 +222,8 @@ module _ (tokens : List Lexeme) where
 
     -- a case of a match: its word, NAME ":" q
     pub data Case : ℕ → ℕ → ℕ → Named → Type 0 where
-      case : {side i j : ℕ} {x : Oql} → Is i side → Is (suc i) NAME → Is (suc (suc i)) COLON → Q (suc (suc (suc i))) j x
+      case : {side i j : ℕ} {x : Oql}
+          → Is i side → Is (suc i) NAME → Is (suc (suc i)) COLON → Q (suc (suc (suc i))) j x
           → Case side i j (named (suc i) (text_at (suc i)) x)
 
   -- defines = { "define" NAME "as" expr ";" }

@@ -8,7 +8,7 @@ use Rattle.qc_lex.specs.declared.token.Lexeme.{Lexeme}
 use Rattle.qc_lex.specs.declared.token.Placed.{Placed}
 use Rattle.qc_lex.specs.Pieces as pieces
 use Rattle.qc_oql_tree.specs.declared.lexeme.Lexeme as scanned
-use Rattle.qc_oql_tree.specs.Kinds as kinds
+use Rattle.qc_oql_tree.specs.TokenKinds as kinds
 
 -- the words that the language reserves, each with its kind
 abbrev pub words : List (List ℕ × ℕ)
@@ -16,18 +16,18 @@ words =
     (codes "define", kinds.DEFINE) ∷ (codes "as", kinds.AS) ∷ (codes "select", kinds.SELECT) ∷
     (codes "distinct", kinds.DISTINCT) ∷ (codes "from", kinds.FROM) ∷ (codes "where", kinds.WHERE) ∷
     (codes "order", kinds.ORDER) ∷ (codes "by", kinds.BY) ∷ (codes "in", kinds.IN) ∷ (codes "asc", kinds.ASC) ∷
-    (codes "desc", kinds.DESC) ∷ (codes "if", kinds.IF) ∷ (codes "then", kinds.THEN) ∷ (codes "else", kinds.ELSE) ∷
-    (codes "exists", kinds.EXISTS) ∷ (codes "for", kinds.FOR) ∷ (codes "all", kinds.ALL) ∷
-    (codes "true", kinds.TRUE) ∷ (codes "false", kinds.FALSE) ∷ (codes "nil", kinds.NIL) ∷
-    (codes "struct", kinds.STRUCT) ∷ (codes "bag", kinds.BAG) ∷ (codes "match", kinds.MATCH) ∷
-    (codes "cast", kinds.CAST) ∷ (codes "brand", kinds.BRAND) ∷ (codes "or", kinds.OR) ∷ (codes "and", kinds.AND) ∷
-    (codes "not", kinds.NOT) ∷ (codes "like", kinds.LIKE) ∷ (codes "union", kinds.UNION) ∷
-    (codes "except", kinds.EXCEPT) ∷ (codes "intersect", kinds.INTERSECT) ∷ (codes "mod", kinds.MOD) ∷
-    (codes "count", kinds.COUNT) ∷ (codes "sum", kinds.SUM) ∷ (codes "min", kinds.MIN) ∷ (codes "max", kinds.MAX) ∷
-    (codes "avg", kinds.AVG) ∷ (codes "element", kinds.ELEMENT) ∷ (codes "flatten", kinds.FLATTEN) ∷
-    (codes "abs", kinds.ABS) ∷ (codes "left", kinds.LEFT) ∷ (codes "right", kinds.RIGHT) ∷
-    (codes "unbrand", kinds.UNBRAND) ∷ (codes "orelse", kinds.ORELSE) ∷ (codes "least", kinds.LEAST) ∷
-    (codes "greatest", kinds.GREATEST) ∷ []
+    (codes "desc", kinds.DESC) ∷ (codes "if", kinds.IF) ∷ (codes "then", kinds.THEN) ∷
+    (codes "else", kinds.ELSE) ∷ (codes "exists", kinds.EXISTS) ∷ (codes "for", kinds.FOR) ∷
+    (codes "all", kinds.ALL) ∷ (codes "true", kinds.TRUE) ∷ (codes "false", kinds.FALSE) ∷
+    (codes "nil", kinds.NIL) ∷ (codes "struct", kinds.STRUCT) ∷ (codes "bag", kinds.BAG) ∷
+    (codes "match", kinds.MATCH) ∷ (codes "cast", kinds.CAST) ∷ (codes "brand", kinds.BRAND) ∷
+    (codes "or", kinds.OR) ∷ (codes "and", kinds.AND) ∷ (codes "not", kinds.NOT) ∷ (codes "like", kinds.LIKE) ∷
+    (codes "union", kinds.UNION) ∷ (codes "except", kinds.EXCEPT) ∷ (codes "intersect", kinds.INTERSECT) ∷
+    (codes "mod", kinds.MOD) ∷ (codes "count", kinds.COUNT) ∷ (codes "sum", kinds.SUM) ∷
+    (codes "min", kinds.MIN) ∷ (codes "max", kinds.MAX) ∷ (codes "avg", kinds.AVG) ∷
+    (codes "element", kinds.ELEMENT) ∷ (codes "flatten", kinds.FLATTEN) ∷ (codes "abs", kinds.ABS) ∷
+    (codes "left", kinds.LEFT) ∷ (codes "right", kinds.RIGHT) ∷ (codes "unbrand", kinds.UNBRAND) ∷
+    (codes "orelse", kinds.ORELSE) ∷ (codes "least", kinds.LEAST) ∷ (codes "greatest", kinds.GREATEST) ∷ []
 
 -- the marks, each with its kind
 abbrev pub marks : List (List ℕ × ℕ)

@@ -1,8 +1,8 @@
 pub mod inner
 pub mod Grammar
-pub mod Kinds
+pub mod TokenKinds
 pub mod Lexemes
-pub mod Operators
+pub mod OperatorTokens
 pub mod Sizes
 pub mod Trees
 pub mod Bindings

@@ -1,4 +1,4 @@
-// The kinds of tokens, by the numbers of specs/Kinds.antt.
+// The kinds of tokens, by the numbers of specs/TokenKinds.antt.
 
 pub const NAME: u32 = 0;
 

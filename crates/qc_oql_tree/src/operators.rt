@@ -1,6 +1,6 @@
 // Operators and other choices, by the kinds of their tokens.
 ghost use Rattle.std.specs.Prelude.{◌≡◌};
-ghost use Rattle.qc_oql_tree.specs.Operators as spec;
+ghost use Rattle.qc_oql_tree.specs.OperatorTokens as spec;
 
 use crate::kinds::{
     ABS, AND, AT_LEAST, AT_MOST, AVG, CAST, COUNT, DISTINCT, DIVIDE, ELEMENT, EQUAL, EXCEPT, FALSE,

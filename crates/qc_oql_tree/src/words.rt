@@ -1,6 +1,6 @@
 // The words and marks of the language, and which kind of token each is.
 ghost use Rattle.std.specs.Prelude.{◌≡◌, map};
-ghost use Rattle.qc_oql_tree.specs.Kinds as kinds;
+ghost use Rattle.qc_oql_tree.specs.TokenKinds as kinds;
 ghost use Rattle.qc_oql_tree.specs.Lexemes as spec;
 
 use crate::kinds::{

@@ -11,7 +11,7 @@ use Rattle.serde_json.proofs.Views.{Entry}
 use Rattle.qc_containers.specs.Rising.{Rising, Above}
 use Rattle.qc_data.specs.declared.data.Json.{Json}
 use Rattle.qc_containers.proofs.Appending.{names, may_go_last, goes_last, nothing_before, one_more}
-use Rattle.qc_schema.specs.Reading.{of_data, of_members}
+use Rattle.qc_schema.specs.JsonReading.{of_data, of_members}
 
 -- the keys alone
 abbrev pub keyed : List Entry → List (List ℕ × ⊤)

@@ -34,7 +34,7 @@ use Rattle.qc_data.specs.declared.data.Json.TheFolds.{map-Json, ind-Json, fold-r
 use Rattle.qc_data.specs.declared.data.Json.TheVariants as J
 use Rattle.qc_data.proofs.Risen.{rise-mapped}
 use Rattle.qc_containers.proofs.Truth.{and_parts, and_both, is_Less}
-use Rattle.qc_schema.specs.Reading as back
+use Rattle.qc_schema.specs.JsonReading as back
 use Rattle.qc_schema.specs.inner.Sound.{sound, sound_step, fits64}
 use Rattle.qc_schema.specs.Writing.{data_of, data_step, members_of, text_of}
 use Rattle.qc_schema.proofs.Valued.{data-roll}

@@ -84,7 +84,8 @@ pub value-Brand : (name : List ℕ) (d : Datum) → value_of (D.Brand name d) �
 value-Brand name d =
     ap data_of (encoded.enc-Brand name d)
     ∙ data-Object ((codes "$class", J.Text name) ∷ (codes "$data", enc d) ∷ [])
-    ∙ ap (λ v. value.object (value.member (codes "$class") v (value.member (codes "$data") (value_of d) value.no_members)))
+    ∙ ap (λ v. value.object (value.member (codes "$class") v
+    (value.member (codes "$data") (value_of d) value.no_members)))
     (data-Text name)
 
 pub ruleset by_kind = (

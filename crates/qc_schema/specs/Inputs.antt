@@ -4,7 +4,7 @@ use Rattle.qc_data.specs.Decoding.{dec}
 use Rattle.qc_data.specs.declared.data.Datum.{Datum}
 use Rattle.qc_data.specs.declared.data.Json.{Json}
 use Rattle.qc_types.specs.Schemas.{SchemaOf, is_world}
-use Rattle.qc_schema.specs.Reading.{Means}
+use Rattle.qc_schema.specs.JsonReading.{Means}
 
 -- the bytes mean a tree, the tree encodes the datum, and the datum is a world of the schema
 abbrev pub MeansWorld : List ℕ → SchemaOf → Datum → Type 0

@@ -1,7 +1,7 @@
 pub mod inner
 pub mod Inputs
-pub mod Reading
+pub mod JsonReading
 pub mod SchemaFile
 pub mod TypeText
-pub mod Typing
+pub mod TypeForms
 pub mod Writing

@@ -8,8 +8,8 @@ use Rattle.qc_data.specs.declared.data.Json.TheViews.{out-Json}
 use Rattle.qc_types.specs.Schemas.{SchemaOf, good_classes, good_globals}
 use Rattle.qc_types.specs.declared.ty.ClassDef.{ClassDef}
 use Rattle.qc_types.specs.declared.ty.Ty.{Ty}
-use Rattle.qc_schema.specs.Reading.{Means}
-use Rattle.qc_schema.specs.Typing.{said}
+use Rattle.qc_schema.specs.JsonReading.{Means}
+use Rattle.qc_schema.specs.TypeForms.{said}
 
 -- the class of a name, a parent and a type that are there
 abbrev pub class_from : Option (List ℕ) → Option (Option (List ℕ)) → Option Ty → Option ClassDef

@@ -2,7 +2,7 @@
 ghost use Rattle.std.specs.Prelude.{◌≡◌, IfOk};
 ghost use Rattle.serde_json.specs.View.{view, items_view, members_view};
 ghost use Rattle.qc_data.specs.declared.data.Json.{Json};
-ghost use Rattle.qc_schema.specs.Reading.{of_data, of_items, of_members, Means};
+ghost use Rattle.qc_schema.specs.JsonReading.{of_data, of_items, of_members, Means};
 
 use crate::faults::InputFault;
 use crate::texts::Texts;

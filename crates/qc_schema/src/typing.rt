@@ -3,7 +3,7 @@ ghost use Rattle.std.specs.Prelude.{◌≡◌, ◌&&◌, IfOk, Some, None, cond,
 ghost use Rattle.qc_containers.specs.Name.{is_name};
 ghost use Rattle.qc_containers.specs.Rising.{on_value};
 ghost use Rattle.qc_types.specs.Schemas.{user};
-ghost use Rattle.qc_schema.specs.Typing.{said, row_of, object_of, tagged, atom, name_in, two_of};
+ghost use Rattle.qc_schema.specs.TypeForms.{said, row_of, object_of, tagged, atom, name_in, two_of};
 
 use qc_containers::{Boxed, Memory, Name, NameFault};
 use qc_data::{Json, Jsons, Members};

@@ -7,7 +7,7 @@ ghost use Rattle.serde_json.specs.Find.{of_integer};
 ghost use Rattle.serde_json.specs.Read.{max_depth};
 ghost use Rattle.serde_json.specs.View.{items_of};
 ghost use Rattle.qc_containers.specs.Rising.{on_value};
-ghost use Rattle.qc_schema.specs.Reading.{Means};
+ghost use Rattle.qc_schema.specs.JsonReading.{Means};
 ghost use Rattle.qc_schema.specs.Writing.{data_of, text_of, members_of};
 
 use crate::sound::check_sound;

@@ -29,7 +29,7 @@ use Rattle.qc_ops.specs.Records.{over as over_data, compatible}
 use Rattle.qc_ops.specs.Sameness.{same}
 use Rattle.qc_ops.specs.Truths.{compared_at, compared}
 use Rattle.qc_typing.specs.Kinds.{is_bottom, members, record_parts, when, on_members, on_records}
-use Rattle.qc_typing.specs.Rows.{merge_type, shared_join, over}
+use Rattle.qc_typing.specs.FieldTypes.{merge_type, shared_join, over}
 use Rattle.qc_typing.specs.Tables.{both_below, operands_type, binary_type}
 use Rattle.qc_typing.specs.Typed.{HasType}
 use Rattle.qc_typing.proofs.Outcomes.{Holds, Typed, all_append, all_to, holds_then, typed_never, typed_then, typed_when}

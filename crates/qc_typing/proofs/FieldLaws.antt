@@ -6,7 +6,7 @@ use Rattle.std.specs.Str.{bytes_eq}
 use Rattle.qc_containers.specs.Pairs.{lookup, put}
 use Rattle.qc_types.proofs.PutLaws.{lookup-put}
 use Rattle.qc_ops.specs.Records.{is_among}
-use Rattle.qc_typing.specs.Rows.{put_new, put_found, chosen, over}
+use Rattle.qc_typing.specs.FieldTypes.{put_new, put_found, chosen, over}
 use Rattle.qc_typing.proofs.RisingLaws.{or_else, same_name, name_itself}
 
 or_none : {T : Type 0} (o : Option T) → or_else o None ≡ o

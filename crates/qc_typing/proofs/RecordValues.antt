@@ -26,7 +26,7 @@ use Rattle.qc_ops.specs.Operands.{as_rec, only_if, found}
 use Rattle.qc_ops.specs.Records as ops
 use Rattle.qc_ops.specs.Records.{is_among, fields_at, part_of, projection}
 use Rattle.qc_typing.specs.Kinds.{record_at, record_parts}
-use Rattle.qc_typing.specs.Rows.{has_names, chosen, over, cat_type}
+use Rattle.qc_typing.specs.FieldTypes.{has_names, chosen, over, cat_type}
 use Rattle.qc_typing.specs.Typed.{HasType}
 use Rattle.qc_typing.proofs.Outcomes.{Holds, Typed, holds_then, typed_at, typed_weaker}
 use Rattle.qc_typing.proofs.RisingLaws.{or_else, same_name, absent_above, same_rising, rising_names, rising_one}

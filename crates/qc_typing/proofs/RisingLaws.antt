@@ -12,7 +12,7 @@ use Rattle.qc_containers.specs.Pairs.{lookup, put}
 use Rattle.qc_containers.specs.Rising.{text_cmp, Above, Rising}
 use Rattle.qc_containers.proofs.Putting.{Rising-put}
 use Rattle.qc_types.specs.Rows.{names}
-use Rattle.qc_typing.specs.Rows.{put_new, put_found, chosen, over}
+use Rattle.qc_typing.specs.FieldTypes.{put_new, put_found, chosen, over}
 
 -- the first value, if there is one, and else the second
 abbrev pub or_else : {T : Type 0} → Option T → Option T → Option T

@@ -27,7 +27,7 @@ use Rattle.qc_ops.specs.Records.{is_among, projection}
 use Rattle.qc_ops.specs.Sameness.{same}
 use Rattle.qc_ops.specs.Sorting.{has_value, one_kind, column, row_cmp}
 use Rattle.qc_typing.specs.Kinds.{record_at, record_parts}
-use Rattle.qc_typing.specs.Rows.{has_names, chosen, atom_at, ordered_at, is_ordered_by, grouped_at, groups_of}
+use Rattle.qc_typing.specs.FieldTypes.{has_names, chosen, atom_at, ordered_at, is_ordered_by, grouped_at, groups_of}
 use Rattle.qc_typing.specs.Typed.{HasType}
 use Rattle.qc_typing.proofs.Outcomes.{Holds, Typed, holds_then, holds_each, holds_weaker, typed_at, typed_when}
 use Rattle.qc_typing.proofs.FieldLaws.{lookup-chosen}

@@ -29,7 +29,7 @@ use Rattle.qc_ops.specs.Operands.{as_bool, as_text, as_rec, as_brand, optional}
 use Rattle.qc_ops.specs.Operators.{unary}
 use Rattle.qc_ops.specs.Sides.{is_under}
 use Rattle.qc_typing.specs.Kinds.{is_bottom, members, record_parts, own_class, bag_above, when}
-use Rattle.qc_typing.specs.Rows.{has_names, is_ordered_by, groups_of}
+use Rattle.qc_typing.specs.FieldTypes.{has_names, is_ordered_by, groups_of}
 use Rattle.qc_typing.specs.Tables.{maybe_int, bottom_type, operand_type, unary_type}
 use Rattle.qc_typing.specs.Typed.{HasType}
 use Rattle.qc_typing.proofs.Outcomes.{Holds, Typed, holds_then, typed_at, typed_by, typed_map, typed_never, typed_some}

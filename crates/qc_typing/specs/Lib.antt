@@ -1,5 +1,5 @@
 pub mod Kinds
-pub mod Rows
+pub mod FieldTypes
 pub mod Tables
 pub mod Typed
 pub mod Checking

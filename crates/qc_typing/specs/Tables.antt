@@ -13,7 +13,7 @@ use Rattle.qc_ops.specs.declared.op.Unary.TheVariants as one
 use Rattle.qc_ops.specs.declared.op.Binary.{Binary}
 use Rattle.qc_ops.specs.declared.op.Binary.TheVariants as two
 use Rattle.qc_typing.specs.Kinds.{is_bottom, members, record_parts, own_class, bag_above, when, on_members, on_records}
-use Rattle.qc_typing.specs.Rows.{has_names, chosen, cat_type, merge_type, is_ordered_by, groups_of}
+use Rattle.qc_typing.specs.FieldTypes.{has_names, chosen, cat_type, merge_type, is_ordered_by, groups_of}
 
 -- an integer, or unit
 abbrev pub maybe_int : Ty

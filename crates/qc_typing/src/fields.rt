@@ -1,7 +1,7 @@
 // Fields by name: those at names, and those of two records.
 ghost use Rattle.std.specs.Prelude.{◌≡◌, IfOk, OnOk};
 ghost use Rattle.qc_ops.specs.Records.{is_among};
-ghost use Rattle.qc_typing.specs.Rows.{chosen, has_names, over, put_new, shared_join};
+ghost use Rattle.qc_typing.specs.FieldTypes.{chosen, has_names, over, put_new, shared_join};
 
 use qc_containers::{Memory, Name};
 use qc_ops::Names;

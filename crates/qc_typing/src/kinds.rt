@@ -4,7 +4,7 @@ ghost use Rattle.std.specs.Option.{option_copied};
 ghost use Rattle.qc_types.specs.Types.{sub};
 ghost use Rattle.qc_types.specs.declared.ty.Ty.TheVariants as ty;
 ghost use Rattle.qc_typing.specs.Kinds.{own_class, is_bottom, members, record_parts, when};
-ghost use Rattle.qc_typing.specs.Rows.{is_atom};
+ghost use Rattle.qc_typing.specs.FieldTypes.{is_atom};
 ghost use Rattle.qc_typing.specs.Tables.{both_below, maybe_int};
 
 use qc_containers::{Boxed, Memory, Name};

@@ -4,7 +4,7 @@ ghost use Rattle.qc_containers.specs.Pairs.{lookup};
 ghost use Rattle.qc_types.specs.declared.ty.Width.TheVariants as width;
 ghost use Rattle.qc_types.specs.declared.ty.Ty.TheVariants as ty;
 ghost use Rattle.qc_typing.specs.Kinds.{on_records, record_parts, when};
-ghost use Rattle.qc_typing.specs.Rows.{cat_type, chosen, has_names, merge_type};
+ghost use Rattle.qc_typing.specs.FieldTypes.{cat_type, chosen, has_names, merge_type};
 
 use crate::fields::{chosen, has_names, over, shared_join};
 use crate::kinds::{coll_of, record_parts};

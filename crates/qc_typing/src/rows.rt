@@ -6,7 +6,7 @@ ghost use Rattle.qc_ops.specs.Records.{is_among};
 ghost use Rattle.qc_types.specs.declared.ty.Width.TheVariants as width;
 ghost use Rattle.qc_types.specs.declared.ty.Ty.TheVariants as ty;
 ghost use Rattle.qc_typing.specs.Kinds.{members, when};
-ghost use Rattle.qc_typing.specs.Rows.{atom_at, chosen, groups_of, has_names, is_ordered_by};
+ghost use Rattle.qc_typing.specs.FieldTypes.{atom_at, chosen, groups_of, has_names, is_ordered_by};
 
 use crate::fields::{chosen, has_names, is_among};
 use crate::kinds::{coll_of, is_atom, members_of, when};

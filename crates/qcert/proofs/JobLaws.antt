@@ -7,7 +7,7 @@ use Rattle.qc_io.specs.Device.{Texts}
 use Rattle.qc_lang.specs.Keeping.{IsOf}
 use Rattle.qc_types.specs.Schemas.{SchemaOf, WorldOf}
 use Rattle.qc_schema.specs.Inputs.{MeansWorld}
-use Rattle.qc_schema.specs.Reading.{Means}
+use Rattle.qc_schema.specs.JsonReading.{Means}
 use Rattle.qc_schema.specs.SchemaFile.{MeansSchema, schema_of as meant_schema}
 use Rattle.qc_lex.specs.declared.token.Placed.{Placed}
 use Rattle.qc_oql.specs.declared.reading.TypedQuery.{TypedQuery}
@@ -31,8 +31,8 @@ use Rattle.qc_work.specs.Sources.{table_of, IsQuery, IsFault}
 use Rattle.qc_work.specs.Work as work
 use Rattle.qc_work.specs.Work.{Work, IsTextFor, Refuses, IsClear}
 use Rattle.qcert.specs.Jobs.{Subject, Job, Check, Compile, Run}
-use Rattle.qcert.specs.Reading.{schema_of, tokens_in, query_in, checked_in, input_of, read, names_of, files_of, act}
-use Rattle.qcert.specs.Reading.{serve}
+use Rattle.qcert.specs.Fetching.{schema_of, tokens_in, query_in, checked_in, input_of, read, names_of, files_of, act}
+use Rattle.qcert.specs.Fetching.{serve}
 use Rattle.qcert.specs.Steps.{Names, firm, pure, then}
 use Rattle.qcert.proofs.StepLaws.{Lawful, Good, IsPartial, firm_lawful, firm_good, pure_good, read_good, then_good}
 use Rattle.qcert.proofs.StepLaws.{then_lawful, AsksFor, firm_asks, pure_asks, read_asks, then_asks, then_nothing}

@@ -16,7 +16,7 @@ use Rattle.qcert.specs.Jobs.{Subject, Job, Compile, job_of}
 use Rattle.qcert.specs.Ran.{IsEnding, no_job, of_job, Ran, AskedFor, HasAskedFor, nothing, its_files}
 use Rattle.qcert.specs.Ran.{IsServed, IsCompiled, IsServable, IsDue}
 use Rattle.qcert.specs.Ran as ran
-use Rattle.qcert.specs.Reading.{read, files_of, act, serve}
+use Rattle.qcert.specs.Fetching.{read, files_of, act, serve}
 use Rattle.qcert.specs.Steps.{Names, Visit, HasFailed, MayEnd, Ended}
 use Rattle.qcert.proofs.JobLaws.{reads_good, serve_lawful, serve_asks, clear_work}
 use Rattle.qcert.proofs.StepLaws.{IsFront, complete as completed, refused as refused_for}

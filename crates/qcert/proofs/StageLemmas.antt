@@ -12,7 +12,7 @@ use Rattle.qc_work.specs.Work.{Work, IsTextFor, Refuses, IsClear}
 use Rattle.qcert.specs.inner.Promises.{Stage}
 use Rattle.qcert.specs.Files.{fetch, read_as}
 use Rattle.qcert.specs.Steps.{Names, Step, Visit, MayEnd, firm, pure, then}
-use Rattle.qcert.specs.Reading.{act}
+use Rattle.qcert.specs.Fetching.{act}
 
 pub itself : (n : ℕ) → n ≤ n
 itself n = omega arith

@@ -2,6 +2,6 @@ pub mod Delivery
 pub mod Files
 pub mod Jobs
 pub mod Ran
-pub mod Reading
+pub mod Fetching
 pub mod Steps
 pub mod inner

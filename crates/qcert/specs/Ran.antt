@@ -11,7 +11,7 @@ use Rattle.qc_work.specs.Sources.{meaning_of}
 use Rattle.qc_work.specs.Work.{Work, IsTextFor, IsClear}
 use Rattle.qcert.specs.Delivery.{Put, IsDelivered}
 use Rattle.qcert.specs.Jobs.{Subject, Job, job_of}
-use Rattle.qcert.specs.Reading.{checked_in, read, files_of, serve}
+use Rattle.qcert.specs.Fetching.{checked_in, read, files_of, serve}
 use Rattle.qcert.specs.Steps.{Names, Visit, HasFailed, MayEnd, Ended}
 
 -- the words may end so: without a job nothing is asked for, and a job is served

@@ -6,7 +6,7 @@ ghost use Rattle.std.specs.Rc.{rc_str_bytes};
 ghost use Rattle.std.specs.String.{string_bytes};
 ghost use Rattle.qcert.specs.Jobs.{Check, Compile, Run, job_seen, subject_seen};
 ghost use Rattle.qcert.specs.Ran.{IsEnding};
-ghost use Rattle.qcert.specs.Reading.{serve};
+ghost use Rattle.qcert.specs.Fetching.{serve};
 ghost use Rattle.qcert.specs.Steps.{visit};
 ghost use Rattle.qcert.specs.inner.Promises.{Stage};
 

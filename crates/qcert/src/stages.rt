@@ -8,7 +8,7 @@ ghost use Rattle.qc_work.specs.Promises.{HasItsType};
 ghost use Rattle.qc_work.specs.Reading.{IsBadSchema, IsInput, IsBadInput};
 ghost use Rattle.qcert.specs.Files.{fetch, most_of, read_as};
 ghost use Rattle.qcert.specs.Jobs.{subject_seen};
-ghost use Rattle.qcert.specs.Reading.{schema_of, tokens_in, query_in, checked_in, input_of};
+ghost use Rattle.qcert.specs.Fetching.{schema_of, tokens_in, query_in, checked_in, input_of};
 ghost use Rattle.qcert.specs.Steps.{visit};
 ghost use Rattle.qcert.specs.inner.Promises.{Stage};
 

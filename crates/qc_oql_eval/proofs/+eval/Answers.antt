@@ -7,7 +7,7 @@ use Rattle.qc_oql_tree.specs.declared.tree.Oql.TheVariants as tree
 use Rattle.qc_oql_tree.specs.declared.tree.Oql.TheViews.{out-Named}
 use Rattle.qc_oql_tree.specs.Meaning.{oql}
 use Rattle.qc_oql_eval.specs.inner.Scopes.{bindings_of}
-use Rattle.qc_oql_eval.specs.inner.Rows.{keyed_rows}
+use Rattle.qc_oql_eval.specs.inner.SelectRows.{keyed_rows}
 use Rattle.qc_oql_eval.specs.inner.Selected.{kept_rows, of_kept}
 use Rattle.qc_oql_eval.proofs.Arms.{arm, binary_arm, of_values, or_else_arm, select_arm, values_halt}
 use Rattle.qc_oql_tree.proofs.MeaningForms.{oql-Struct, oql-Bag}

@@ -7,7 +7,7 @@ use Rattle.qc_ops.specs.Operands.{bag}
 use Rattle.qc_oql_eval.specs.inner.Scopes.{bindings_of}
 use Rattle.qc_oql_tree.specs.FormMeanings.{collected, decided, field_of, record_of, structured, truth}
 use Rattle.qc_oql_tree.specs.Meaning.{key, named, oql}
-use Rattle.qc_oql_eval.specs.inner.Rows.{keyed_rows}
+use Rattle.qc_oql_eval.specs.inner.SelectRows.{keyed_rows}
 use Rattle.qc_oql_eval.specs.inner.Kept.{kept_member}
 use Rattle.qc_oql_eval.specs.inner.Selected.{kept_rows}
 use Rattle.qc_oql_tree.specs.SelectMeaning.{extended, key_values, keyed, rows_from, rows_of}

@@ -1,7 +1,7 @@
 use Rattle.std.proofs.Common.{◌≡◌, drop, map}
 use Rattle.std.specs.List.{list_all}
 use Rattle.qc_oql_eval.specs.inner.SortKinds.{is_of}
-use Rattle.qc_oql_eval.specs.inner.Rows.{keyed_rows}
+use Rattle.qc_oql_eval.specs.inner.SelectRows.{keyed_rows}
 use Rattle.qc_oql_eval.specs.inner.Columns.{value_at}
 use Rattle.qc_oql_eval.proofs.ordering.all_of.Given as goal
 

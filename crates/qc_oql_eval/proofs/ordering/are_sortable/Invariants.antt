@@ -1,5 +1,5 @@
 use Rattle.std.proofs.Common.{◌≡◌, drop, map}
-use Rattle.qc_oql_eval.specs.inner.Rows.{keyed_rows, directions}
+use Rattle.qc_oql_eval.specs.inner.SelectRows.{keyed_rows, directions}
 use Rattle.qc_oql_tree.specs.SelectMeaning.{are_sortable}
 use Rattle.qc_oql_eval.specs.inner.Columns.{are_sortable_from}
 use Rattle.qc_oql_eval.proofs.ordering.are_sortable.Given as goal

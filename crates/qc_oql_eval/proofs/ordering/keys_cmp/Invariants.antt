@@ -1,5 +1,5 @@
 use Rattle.std.proofs.Common.{◌≡◌, drop}
-use Rattle.qc_oql_eval.specs.inner.Rows.{directions}
+use Rattle.qc_oql_eval.specs.inner.SelectRows.{directions}
 use Rattle.qc_oql_tree.specs.SelectMeaning.{keys_cmp}
 use Rattle.qc_oql_eval.specs.inner.Columns.{keys_cmp_from}
 use Rattle.qc_oql_eval.proofs.ordering.keys_cmp.Given as goal

@@ -1,7 +1,7 @@
 use Rattle.std.proofs.Common.{◌≡◌, ◌∙◌, ap, rules}
 use Rattle.qc_data.specs.Order.{sort_by}
 use Rattle.qc_ops.proofs.RowOrder.{sort-map, sorted_by}
-use Rattle.qc_oql_eval.specs.inner.Rows.{keyed_rows, directions}
+use Rattle.qc_oql_eval.specs.inner.SelectRows.{keyed_rows, directions}
 use Rattle.qc_oql_tree.specs.SelectMeaning.{keys_cmp}
 use Rattle.qc_oql_eval.proofs.KeyOrder.{keyed_total}
 use Rattle.qc_oql_eval.proofs.ordering.sorted.Goals as goal

@@ -1,6 +1,6 @@
 use Rattle.std.proofs.Common.{◌≡◌, map, take}
 use Rattle.qc_ops.specs.inner.Columns.{behind}
-use Rattle.qc_oql_eval.specs.inner.Rows.{keyed_rows}
+use Rattle.qc_oql_eval.specs.inner.SelectRows.{keyed_rows}
 use Rattle.qc_oql_eval.proofs.ordering.without_keys.Given as goal
 
 abbrev pub invariant-loop-row : goal.invariant-loop-row

@@ -1,7 +1,7 @@
 use Rattle.std.proofs.Common.{◌≡◌, ◌++◌, option_map}
 use Rattle.std.specs.Vec.Iter.{into_iter_items}
 use Rattle.serde_json.specs.View.{items_view, members_view}
-use Rattle.qc_schema.specs.Reading.{of_items, of_members}
+use Rattle.qc_schema.specs.JsonReading.{of_items, of_members}
 use Rattle.qc_containers.specs.Rising.{Rising}
 use Rattle.qc_schema.proofs.Converted.{keyed}
 use Rattle.qc_containers.proofs.Appending.{names}

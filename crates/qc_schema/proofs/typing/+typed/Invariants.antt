@@ -1,7 +1,7 @@
 use Rattle.std.proofs.Common.{◌≡◌, ◌++◌, drop, map, option_map}
 use Rattle.qc_containers.specs.Rising.{Rising, on_value}
 use Rattle.qc_containers.proofs.Appending.{names}
-use Rattle.qc_schema.specs.Typing.{said, row_of}
+use Rattle.qc_schema.specs.TypeForms.{said, row_of}
 use Rattle.qc_schema.proofs.typing.+typed.Given as goal
 
 abbrev pub invariant-read_fields-loop-pair : goal.invariant-read_fields-loop-pair

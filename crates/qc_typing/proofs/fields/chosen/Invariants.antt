@@ -1,5 +1,5 @@
 use Rattle.std.proofs.Common.{◌≡◌, ◌≤◌, drop, length}
-use Rattle.qc_typing.specs.Rows.{chosen}
+use Rattle.qc_typing.specs.FieldTypes.{chosen}
 use Rattle.qc_typing.proofs.fields.chosen.Given as goal
 
 -- the fields at the names from here on

@@ -1,5 +1,5 @@
 use Rattle.std.proofs.Common.{◌≡◌, drop}
-use Rattle.qc_typing.specs.Rows.{has_names}
+use Rattle.qc_typing.specs.FieldTypes.{has_names}
 use Rattle.qc_typing.proofs.fields.has_names.Given as goal
 
 -- what is left decides

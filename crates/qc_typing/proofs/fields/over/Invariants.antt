@@ -1,5 +1,5 @@
 use Rattle.std.proofs.Common.{◌≡◌, drop}
-use Rattle.qc_typing.specs.Rows.{over}
+use Rattle.qc_typing.specs.FieldTypes.{over}
 use Rattle.qc_typing.proofs.fields.over.Given as goal
 
 -- what is left goes over what is there

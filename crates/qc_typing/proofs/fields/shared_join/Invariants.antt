@@ -1,5 +1,5 @@
 use Rattle.std.proofs.Common.{◌≡◌, drop}
-use Rattle.qc_typing.specs.Rows.{shared_join}
+use Rattle.qc_typing.specs.FieldTypes.{shared_join}
 use Rattle.qc_typing.proofs.fields.shared_join.Given as goal
 
 -- what is left decides

@@ -1,7 +1,7 @@
 use Rattle.std.proofs.Common.{◌≡◌, drop}
 use Rattle.std.specs.List.{list_all}
 use Rattle.qc_containers.specs.Pairs.{lookup}
-use Rattle.qc_typing.specs.Rows.{atom_at}
+use Rattle.qc_typing.specs.FieldTypes.{atom_at}
 use Rattle.qc_typing.proofs.rows.has_atoms.Given as goal
 
 -- what is left decides

@@ -1,7 +1,7 @@
 use Rattle.std.proofs.lemmas.Result.{err_from_is_err_and}
 use Rattle.qc_work.specs.Reading.{IsBadQuery}
 use Rattle.qc_work.specs.Sources.{IsQuery}
-use Rattle.qcert.specs.Reading.{tokens_in}
+use Rattle.qcert.specs.Fetching.{tokens_in}
 use Rattle.qcert.proofs.StageLemmas.{stops, computes}
 use Rattle.qcert.proofs.stages.query_file.Goals as goal
 

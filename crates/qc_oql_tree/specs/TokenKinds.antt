@@ -238,7 +238,9 @@ TESTS = EQUAL ∷ NOT_EQUAL ∷ LESS ∷ AT_MOST ∷ GREATER ∷ AT_LEAST ∷ IN
 
 -- functions of one operand
 abbrev pub UNARIES : List ℕ
-UNARIES = EXISTS ∷ DISTINCT ∷ COUNT ∷ SUM ∷ MIN ∷ MAX ∷ AVG ∷ ELEMENT ∷ FLATTEN ∷ ABS ∷ LEFT ∷ RIGHT ∷ UNBRAND ∷ []
+UNARIES =
+    EXISTS ∷ DISTINCT ∷ COUNT ∷ SUM ∷ MIN ∷ MAX ∷ AVG ∷ ELEMENT ∷ FLATTEN ∷ ABS ∷ LEFT ∷ RIGHT ∷ UNBRAND ∷
+    []
 
 -- functions of two operands
 abbrev pub BINARIES : List ℕ
@@ -251,10 +253,10 @@ BRANDINGS = CAST ∷ BRAND ∷ []
 -- words, reserved or not
 abbrev pub LABELS : List ℕ
 LABELS =
-    NAME ∷ DEFINE ∷ AS ∷ SELECT ∷ DISTINCT ∷ FROM ∷ WHERE ∷ ORDER ∷ BY ∷ IN ∷ ASC ∷ DESC ∷ IF ∷ THEN ∷ ELSE ∷
-    EXISTS ∷ FOR ∷ ALL ∷ TRUE ∷ FALSE ∷ NIL ∷ STRUCT ∷ BAG ∷ MATCH ∷ CAST ∷ BRAND ∷ OR ∷ AND ∷ NOT ∷ LIKE ∷
-    UNION ∷ EXCEPT ∷ INTERSECT ∷ MOD ∷ COUNT ∷ SUM ∷ MIN ∷ MAX ∷ AVG ∷ ELEMENT ∷ FLATTEN ∷ ABS ∷ LEFT ∷ RIGHT ∷
-    UNBRAND ∷ ORELSE ∷ LEAST ∷ GREATEST ∷ []
+    NAME ∷ DEFINE ∷ AS ∷ SELECT ∷ DISTINCT ∷ FROM ∷ WHERE ∷ ORDER ∷ BY ∷ IN ∷ ASC ∷ DESC ∷
+    IF ∷ THEN ∷ ELSE ∷ EXISTS ∷ FOR ∷ ALL ∷ TRUE ∷ FALSE ∷ NIL ∷ STRUCT ∷ BAG ∷ MATCH ∷ CAST ∷
+    BRAND ∷ OR ∷ AND ∷ NOT ∷ LIKE ∷ UNION ∷ EXCEPT ∷ INTERSECT ∷ MOD ∷ COUNT ∷ SUM ∷ MIN ∷
+    MAX ∷ AVG ∷ ELEMENT ∷ FLATTEN ∷ ABS ∷ LEFT ∷ RIGHT ∷ UNBRAND ∷ ORELSE ∷ LEAST ∷ GREATEST ∷ []
 
 -- whether the kind is one of these
 abbrev pub among : ℕ → List ℕ → Bool

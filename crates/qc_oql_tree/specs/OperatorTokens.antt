@@ -10,10 +10,10 @@ use Rattle.qc_oql_tree.specs.declared.tree.Division.{Division}
 use Rattle.qc_oql_tree.specs.declared.tree.Division.TheVariants as division
 use Rattle.qc_oql_tree.specs.declared.tree.Branding.{Branding}
 use Rattle.qc_oql_tree.specs.declared.tree.Branding.TheVariants as branding
-use Rattle.qc_oql_tree.specs.Kinds.{ABS, AND, AT_LEAST, AT_MOST, AVG, CAST, COUNT, DISTINCT, DIVIDE, ELEMENT}
-use Rattle.qc_oql_tree.specs.Kinds.{EQUAL, EXCEPT, FALSE, FLATTEN, GLUE, GREATER, IN, INTERSECT, LEAST, LEFT, LESS, MAX}
-use Rattle.qc_oql_tree.specs.Kinds.{MIN, MINUS, NOT, NOT_EQUAL, OR, ORELSE, PLUS, RIGHT, SUM, TIMES, TRUE, UNBRAND}
-use Rattle.qc_oql_tree.specs.Kinds.{UNION}
+use Rattle.qc_oql_tree.specs.TokenKinds.{ABS, AND, AT_LEAST, AT_MOST, AVG, CAST, COUNT, DISTINCT, DIVIDE, ELEMENT}
+use Rattle.qc_oql_tree.specs.TokenKinds.{EQUAL, EXCEPT, FALSE, FLATTEN, GLUE, GREATER, IN, INTERSECT, LEAST, LEFT, LESS}
+use Rattle.qc_oql_tree.specs.TokenKinds.{MAX, MIN, MINUS, NOT, NOT_EQUAL, OR, ORELSE, PLUS, RIGHT, SUM, TIMES, TRUE}
+use Rattle.qc_oql_tree.specs.TokenKinds.{UNBRAND, UNION}
 
 -- the literal that a kind of word is
 abbrev pub constant_of : ℕ → Constant
