@@ -1,5 +1,5 @@
 // The texts of JSON trees.
-ghost use Rattle.std.specs.Prelude.{◌≡◌, ◌≤◌, IfOk, OnOk, map};
+ghost use Rattle.std.specs.Prelude.{◌≡◌, ◌≤◌, IfOk, IsUtf8, OnOk, map};
 ghost use Rattle.std.specs.String.{string_bytes};
 ghost use Rattle.serde_json.specs.Data.{number, array, object, depth};
 ghost use Rattle.serde_json.specs.Events.{SendsValue};
@@ -25,8 +25,15 @@ pub fn json_text(alloc: Global, j: &Json) -> Result<Chars, Memory>
 {
     check_sound(j);
     let text = tree_text(alloc, j)?;
-    let _text = text.as_str();
+    hand_utf8(&text);
     Chars::from_string(text)
+}
+
+// Hands a proof that the text is UTF-8.
+fn hand_utf8(text: &String)
+    ensures { IsUtf8 (string_bytes text.now) }
+{
+    let _text = text.as_str();
 }
 
 // The compact text of a tree.

@@ -68,6 +68,13 @@ impl Classes {
         self.index.len()
     }
 
+    /// Hands a proof that the classes are good.
+    pub fn hand_good(&self)
+        ensures { IsTrue (good_classes self.now) }
+    {
+        let _len = self.index.len();
+    }
+
     /// The class at a place in the order listed, counted from 0: `None` exactly past the end.
     pub fn at(&self, at: usize) -> Option<&ClassDef>
         ensures value { option_copied result ≡ slice_get (reverse self.now) at }

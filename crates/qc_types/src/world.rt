@@ -86,7 +86,7 @@ impl World {
         ensures value { result.now ≡ self.now.classes }
         ensures good { IsTrue (good_classes self.now.classes) }
     {
-        let _len = self.classes.len();
+        self.classes.hand_good();
         &self.classes
     }
 

@@ -26,7 +26,7 @@ pub fn type2(
     ensures value { IfOk result (λ t. t ≡ binary_type classes.now op.now a.now b.now) }
     ensures sound { IfOk result (λ t. IsSound2 classes.now op.now a.now b.now t) }
 {
-    let _len = classes.len();
+    classes.hand_good();
     binary_type(alloc, classes, op, a, b)
 }
 

@@ -20,7 +20,7 @@ pub fn type1(alloc: Global, classes: &Classes, op: &Unary, a: &Ty) -> Result<Opt
     ensures value { IfOk result (λ t. t ≡ unary_type classes.now op.now a.now) }
     ensures sound { IfOk result (λ t. IsSound1 classes.now op.now a.now t) }
 {
-    let _len = classes.len();
+    classes.hand_good();
     unary_type(alloc, classes, op, a)
 }
 
