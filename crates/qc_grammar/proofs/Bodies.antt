@@ -1,39 +1,20 @@
--- The alternatives of a table, as the code puts them on a stack.
-use Rattle.std.proofs.Common.{◌≡◌, ℕ, List, [], ◌∷◌, ◌++◌, length, refl, sym, ◌∙◌, arith, Some, None}
+-- The alternatives of a table, as the code reads them.
+use Rattle.std.proofs.Common.{◌≡◌, ◌<◌, ℕ, ◌+◌, List, [], ◌∷◌, ◌++◌, length, refl, ap, arith}
+use Rattle.std.specs.Prelude.{drop}
+use Rattle.std.proofs.lemmas.List.{length-drop}
 use Rattle.qc_grammar.specs.declared.symbol.Symbol.{Symbol}
-use Rattle.qc_grammar.specs.inner.Machine.{symbol, symbols}
+use Rattle.qc_grammar.specs.inner.Machine.{Table, body, body_at, left}
 
--- the symbols stand before the others
-pub before : (steps : List ℕ) (σ τ : List Symbol) → symbols steps (σ ++ τ) ≡ symbols steps σ ++ τ
-before [] σ τ = refl
-before (s ∷ []) σ τ = refl
-before (s ∷ v ∷ steps) σ τ =
-    elim (symbol s v) as (λ x. elim x as (λ _. List Symbol) [ None ↦ σ ++ τ | Some y ↦ symbols steps (y ∷ (σ ++ τ)) ]
-    ≡ elim x as (λ _. List Symbol) [ None ↦ σ | Some y ↦ symbols steps (y ∷ σ) ] ++ τ) [
-      | None ↦ refl
-      | Some y ↦ before steps (y ∷ σ) τ
-    ]
+short : (steps : List ℕ) → length steps < 2 → body steps ≡ []
+short [] h = refl
+short (s ∷ []) h = refl
+short (s ∷ v ∷ steps) h = absurd (omega arith)
 
--- one step
-pub stepped : (rest tail others : List ℕ) (s v : ℕ) (x : Symbol) (σ τ : List Symbol) → rest ≡ s ∷ tail
-    → tail ≡ v ∷ others
-    → Some x ≡ symbol s v → τ ≡ x ∷ σ → symbols others τ ≡ symbols rest σ
-stepped rest tail others s v x σ τ e f h g = rw g (rw e (rw f (rw (← h) refl)))
+-- fewer than two numbers are no step
+pub no_step : (o : Table) (p : ℕ) → length o.steps < p + 2 → body_at o p ≡ []
+no_step o p h = short (drop p o.steps) (omega (arith, length-drop p o.steps))
 
--- the end of the steps, or of an alternative
-pub no_step : (rest : List ℕ) (σ : List Symbol) → length rest ≡ 0 → symbols rest σ ≡ σ
-no_step [] σ e = refl
-no_step (s ∷ rest) σ e = absurd (omega arith)
-
-pub half_step : (rest tail : List ℕ) (s : ℕ) (σ : List Symbol) → rest ≡ s ∷ tail → length tail ≡ 0 → symbols rest σ ≡ σ
-half_step rest [] s σ e f = rw e refl
-half_step rest (v ∷ tail) s σ e f = absurd (omega arith)
-
-pub last_step : (rest tail others : List ℕ) (s v : ℕ) (σ : List Symbol) → rest ≡ s ∷ tail → tail ≡ v ∷ others
-    → None ≡ symbol s v → symbols rest σ ≡ σ
-last_step rest tail others s v σ e f h = rw e (rw f (rw (← h) refl))
-
--- and so all symbols are put
-pub put_all : (steps rest : List ℕ) (old σ : List Symbol) → symbols rest σ ≡ symbols steps old → symbols rest σ ≡ σ
-    → σ ≡ symbols steps [] ++ old
-put_all steps rest old σ h e = sym e ∙ h ∙ before steps [] old
+-- a symbol that comes first at a place comes first of what is left
+pub opened : (o : Table) (p : ℕ) (ps : List ℕ) (x : Symbol) → body_at o p ≡ x ∷ body_at o (p + 2)
+    → left o (p ∷ ps) ≡ x ∷ left o ((p + 2) ∷ ps)
+opened o p ps x h = ap (λ z. z ++ left o ps) h

@@ -11,7 +11,7 @@ use Rattle.qc_grammar.specs.declared.symbol.Symbol.TheVariants.{Token, Rule, Act
 use Rattle.qc_grammar.specs.declared.symbol.Event.{Event}
 use Rattle.qc_grammar.specs.inner.Derivations.{Rules, Whole}
 use Rattle.qc_grammar.specs.inner.Certificate.{Notes, steps}
-use Rattle.qc_grammar.specs.inner.Machine.{Table, next, choose, Reached, begun, took, acted, went}
+use Rattle.qc_grammar.specs.inner.Machine.{Table, body_at, left, next, choose, Reached, begun, took, acted, went}
 use Rattle.qc_grammar.specs.Parsing.{Spells, Refused}
 use Rattle.qc_grammar.proofs.Facts.{Exact}
 use Rattle.qc_grammar.proofs.Ending.{lighter}
@@ -51,19 +51,27 @@ shrink g o c n k old σ new body top ex s t b e =
     (subst (λ z. steps c z < steps c (Rule n ∷ σ)) (sym e) h)
 
 module _ (g : Rules) (o : Table) (kinds : List ℕ) where
-  pub start : (σ s : List Symbol) (es : List Event) → s ≡ [] → σ ≡ Rule 0 ∷ s → es ≡ [] → Reached o kinds σ 0 kinds es
-  start σ s es a b d =
-      subst (λ z. Reached o kinds σ 0 kinds z) (sym d)
-      (subst (λ z. Reached o kinds z 0 kinds []) (sym (b ∙ ap (λ z. Rule 0 ∷ z) a)) begun)
+  -- the start's alternative is chosen
+  pub start : (p k : ℕ) (ps : List ℕ) (es : List Event) → Some (body_at o p) ≡ choose o 0 k → k ≡ next kinds
+      → ps ≡ [] → es ≡ [] → Reached o kinds (left o (p ∷ ps)) 0 kinds es
+  start p k ps es b n e f =
+      subst (λ z. Reached o kinds (left o (p ∷ ps)) 0 kinds z) (sym f)
+      (subst (λ z. Reached o kinds (left o (p ∷ z)) 0 kinds []) (sym e)
+      (went (sym (b ∙ ap (choose o 0) n)) begun))
 
-  -- after the rules and the actions on top are done
-  pub wants : (i k : ℕ) (rest : List ℕ) (σ : List Symbol) (es : List Event) (r : Result Top Memory) (t : Top)
-      → After g o kinds i rest σ es r → r ≡ Ok t → t ≡ Wants k → Reached o kinds (Token k ∷ σ) i rest es
-  wants i k rest σ es r t h a b = let at : r ≡ Ok (Wants k) = cc in subst (λ z. After g o kinds i rest σ es z) at h
+  -- or none is
+  pub no_start : (c : Notes) (k : ℕ) → Exact g o c → None ≡ choose o 0 k → k ≡ next kinds → Refused (Whole g) kinds 0
+  no_start c k ex b n = no_choice g o c ex kinds 0 [] 0 kinds [] begun (sym (b ∙ ap (choose o 0) n))
 
-  pub ends : (i : ℕ) (rest : List ℕ) (σ : List Symbol) (es : List Event) (r : Result Top Memory) (t : Top)
-      → After g o kinds i rest σ es r → r ≡ Ok t → t ≡ Ends → Reached o kinds [] i rest es
-  ends i rest σ es r t h a b = let at : r ≡ Ok Ends = cc in subst (λ z. After g o kinds i rest σ es z) at h
+  -- after the rules and the actions that come first are done
+  pub wants : (i k p : ℕ) (rest ps : List ℕ) (es : List Event) (r : Result Top Memory) (t : Top)
+      → After g o kinds i rest ps es r → r ≡ Ok t → t ≡ Wants k p
+      → Reached o kinds (Token k ∷ left o (p ∷ ps)) i rest es
+  wants i k p rest ps es r t h a b = let at : r ≡ Ok (Wants k p) = cc in subst (λ z. After g o kinds i rest ps es z) at h
+
+  pub ends : (i : ℕ) (rest ps : List ℕ) (es : List Event) (r : Result Top Memory) (t : Top)
+      → After g o kinds i rest ps es r → r ≡ Ok t → t ≡ Ends → Reached o kinds [] i rest es
+  ends i rest ps es r t h a b = let at : r ≡ Ok Ends = cc in subst (λ z. After g o kinds i rest ps es z) at h
 
   pub take_on : (i k : ℕ) (rest others : List ℕ) (σ : List Symbol) (es : List Event) (first : ℕ) → rest ≡ first ∷ others
       → first ≡ k → Reached o kinds (Token k ∷ σ) i rest es → Reached o kinds σ (i + 1) others es

@@ -1,18 +1,17 @@
 // Grammars as tables.
-ghost use Rattle.std.specs.Prelude.{◌≡◌, ◌++◌, drop, OnOk};
-ghost use Rattle.std.specs.Option.{option_copied, option_map};
+ghost use Rattle.std.specs.Prelude.{◌≡◌, ◌≤◌, ◌+◌, [], true, length, is_some};
+ghost use Rattle.std.specs.Option.{option_map};
 ghost use Rattle.qc_grammar.specs.inner.Machine as spec;
+ghost use Rattle.qc_grammar.specs.inner.Turns.{Opens};
 
-use crate::stack::Stack;
 use crate::symbol::Symbol;
-use qc_containers::Memory;
 
 /// A grammar as numbers. Rules, kinds and actions have numbers of their own, the start is the rule 0, and what comes
 /// next is 0 at the end, or a kind and 1.
 #[derive(Clone, Copy)]
 pub struct Table<'a> {
-    /// The alternatives, two numbers a step: each symbol from the last to the first (0 and a token, 1 and a rule,
-    /// 2 and an action), and at the end another.
+    /// The alternatives, two numbers a step: each symbol in order (0 and a token, 1 and a rule, 2 and an action), and
+    /// at the end another.
     pub steps: &'a [u8],
     /// How many may come next.
     pub width: u32,
@@ -35,25 +34,32 @@ impl<'a> Table<'a> {
         }
     }
 
-    /// The steps from this place on.
-    fn from(self, place: usize) -> &'a [u8]
-        ensures { result.now ≡ drop place (spec.table self.entry).steps }
-    {
-        if place < self.steps.len() {
-            &self.steps[place..]
-        } else {
-            &[]
-        }
-    }
-
-    /// The steps from the alternative on that is chosen on this.
-    pub(crate) fn choose(self, rule: u32, next: u64) -> Option<&'a [u8]>
-        ensures { option_map spec.body (option_copied result) ≡ spec.choose (spec.table self.entry) rule next }
+    /// The place of the alternative that is chosen on this.
+    pub(crate) fn choose(self, rule: u32, next: u64) -> Option<usize>
+        ensures { option_map (spec.body_at (spec.table self.entry)) result ≡ spec.choose (spec.table self.entry) rule next }
     {
         match self.turn(rule, next) {
             0 => None,
-            turn => Some(self.from(turn - 1)),
+            turn => Some(turn - 1),
         }
+    }
+
+    /// The symbol at this place of an alternative, or `None` at its end.
+    pub(crate) fn symbol(self, place: usize) -> Option<Symbol>
+        ensures same { Opens (spec.table self.entry) place result }
+        ensures within { is_some result ≡ true → place + 2 ≤ length (spec.table self.entry).steps }
+    {
+        if self.steps.len().saturating_sub(place) < 2 {
+            return None;
+        }
+        symbol(self.steps[place], self.steps[place + 1])
+    }
+
+    /// Whether an alternative ends at this place. `false` may be said of an end that the steps lack.
+    pub(crate) fn ends(self, place: usize) -> bool
+        ensures { result ≡ true → spec.body_at (spec.table self.entry) place ≡ [] }
+    {
+        place < self.steps.len() && self.steps[place] > 2
     }
 }
 
@@ -68,22 +74,4 @@ fn symbol(step: u8, value: u8) -> Option<Symbol>
         2 => Some(Symbol::Action(value)),
         _ => None,
     }
-}
-
-/// Puts the symbols of the alternative with which the steps begin on the stack, the first one on top.
-pub(crate) fn put(steps: &[u8], stack: &mut Stack<Symbol>) -> Result<(), Memory>
-    ensures { OnOk result (stack.new ≡ spec.body steps.now ++ stack.old) }
-{
-    let mut rest = steps;
-    while let Some((step, tail)) = rest.split_first() {
-        let Some((value, others)) = tail.split_first() else {
-            return Ok(());
-        };
-        match symbol(*step, *value) {
-            Some(symbol) => stack.push(symbol)?,
-            None => return Ok(()),
-        }
-        rest = others;
-    }
-    Ok(())
 }

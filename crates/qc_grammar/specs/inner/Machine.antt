@@ -1,4 +1,4 @@
--- How a table is read: a stack of symbols, and one alternative by what comes next.
+-- How a table is read: what is left of alternatives, and one alternative by what comes next.
 use Rattle.std.specs.Prelude.{◌≡◌, ℕ, zero, suc, ◌*◌, Bool, false, if◌then◌else◌, ◌||◌, eqb}
 use Rattle.std.specs.Prelude.{List, [], ◌∷◌, ◌++◌, take, drop, Option, Some, None, slice_get}
 use Rattle.qc_grammar.specs.declared.symbol.Symbol.{Symbol}
@@ -31,19 +31,20 @@ abbrev pub symbol : ℕ → ℕ → Option Symbol
 symbol s v =
     if eqb s 0 then Some (Token v) else if eqb s 1 then Some (Rule v) else if eqb s 2 then Some (Action v) else None
 
--- the symbols of the alternative with which the steps begin, the last one first, before others
-abbrev pub symbols : List ℕ → List Symbol → List Symbol
-symbols [] σ = σ
-symbols (s ∷ []) σ = σ
-symbols (s ∷ v ∷ steps) σ = elim (symbol s v) [ None ↦ σ | Some x ↦ symbols steps (x ∷ σ) ]
-
 -- the alternative with which the steps begin
 abbrev pub body : List ℕ → List Symbol
-body steps = symbols steps []
+body [] = []
+body (s ∷ []) = []
+body (s ∷ v ∷ steps) = elim (symbol s v) [ None ↦ [] | Some x ↦ x ∷ body steps ]
 
 -- the alternative at a place
 abbrev pub body_at : Table → ℕ → List Symbol
 body_at o p = body (drop p o.steps)
+
+-- what is left of the alternatives at these places
+abbrev pub left : Table → List ℕ → List Symbol
+left o [] = []
+left o (p ∷ ps) = body_at o p ++ left o ps
 
 -- of a rule, by what comes next: the place and 1 of the alternative that is chosen, or 0
 abbrev pub row : Table → ℕ → List ℕ

@@ -1,34 +1,44 @@
+use Rattle.std.proofs.Common.{◌++◌, ◌∷◌, ◌+◌, ap, arith}
 use Rattle.qc_grammar.specs.inner.Certificate.{rules}
-use Rattle.qc_grammar.specs.inner.Machine.{table, body}
+use Rattle.qc_grammar.specs.inner.Machine.{table, body_at, left}
+use Rattle.qc_grammar.proofs.Bodies.{opened}
 use Rattle.qc_grammar.proofs.Facts.{exact}
 use Rattle.qc_grammar.proofs.Steps.{act, go, fail, shrink}
 use Rattle.qc_grammar.proofs.machine.expand.Goals as goal
 
-pub loop-top-preserved-in-Continue-1 : goal.loop-top-preserved-in-Continue-1
-loop-top-preserved-in-Continue-1 g c = λ kinds rest n r.
-    act (rules (table c.args.table) g.notes) (table c.args.table) kinds c.args.at c.in-Action.action c.loop-top.stack
-    c.pop.new.self c.in-Some.top rest c.loop-top.events c.add.new.self
-    c.in-Some.ensures c.in-Action.is c.in_ok-add-in-Action.ensures.ok (c.loop-top.invariant kinds rest n r)
+pub places-preserved-in-Some-Action : goal.places-preserved-in-Some-Action
+places-preserved-in-Some-Action g c = let o = table c.args.table in λ kinds rest n r.
+    act (rules o g.notes) o kinds c.args.at c.in-Some-Action.action (left o (c.places.place ∷ c.places.stack))
+    (left o ((c.places.place + 2) ∷ c.places.stack)) c.in-Some-Action.field-0 rest c.places.events c.add.new.self
+    (opened o c.places.place c.places.stack c.in-Some-Action.field-0 c.in-Some-Action.ensures.same)
+    c.in-Some-Action.field-0-is c.in_ok-add-in-Some-Action.ensures.ok (c.places.invariant kinds rest n r)
 
-pub loop-top-smaller : goal.loop-top-smaller
-loop-top-smaller g c =
-    shrink (rules (table c.args.table) g.notes) (table c.args.table) g.notes c.in-Rule.rule c.args.next c.loop-top.stack
-    c.pop.new.self c.put.new.stack (body c.in-Some-choose.steps.now) c.in-Some.top
-    (exact (table c.args.table) g.notes c.requires) c.in-Some.ensures c.in-Rule.is c.in-Some-choose.ensures
-    c.in_ok-put-in-Some-choose.ensures
+pub places-smaller-in-Some : goal.places-smaller-in-Some
+places-smaller-in-Some g c = let o = table c.args.table in
+    omega (
+      arith,
+      c.in_ok-keep-in-Some.ensures.few,
+      shrink (rules o g.notes) o g.notes c.in-Some-Rule.rule c.args.next (left o (c.places.place ∷ c.places.stack))
+          (left o ((c.places.place + 2) ∷ c.places.stack)) (left o (c.in-Some.chosen ∷ c.keep.new.stack))
+          (body_at o c.in-Some.chosen) c.in-Some-Rule.field-0 (exact o g.notes c.requires)
+          (opened o c.places.place c.places.stack c.in-Some-Rule.field-0 c.in-Some-Rule.ensures.same)
+          c.in-Some-Rule.field-0-is c.in-Some.ensures
+          (ap (λ z. body_at o c.in-Some.chosen ++ z) c.in_ok-keep-in-Some.ensures.same),
+    )
 
-pub loop-top-preserved : goal.loop-top-preserved
-loop-top-preserved g c = λ kinds rest n r.
-    go (rules (table c.args.table) g.notes)
-    (table c.args.table) kinds c.args.at c.in-Rule.rule c.args.next c.loop-top.stack
-    c.pop.new.self c.put.new.stack (body c.in-Some-choose.steps.now) c.in-Some.top rest c.loop-top.events
-    c.in-Some.ensures c.in-Rule.is c.in-Some-choose.ensures n
-    c.in_ok-put-in-Some-choose.ensures
-    (c.loop-top.invariant kinds rest n r)
+pub places-preserved-in-Some : goal.places-preserved-in-Some
+places-preserved-in-Some g c = let o = table c.args.table in λ kinds rest n r.
+    go (rules o g.notes) o kinds c.args.at c.in-Some-Rule.rule c.args.next (left o (c.places.place ∷ c.places.stack))
+    (left o ((c.places.place + 2) ∷ c.places.stack)) (left o (c.in-Some.chosen ∷ c.keep.new.stack))
+    (body_at o c.in-Some.chosen) c.in-Some-Rule.field-0 rest c.places.events
+    (opened o c.places.place c.places.stack c.in-Some-Rule.field-0 c.in-Some-Rule.ensures.same)
+    c.in-Some-Rule.field-0-is c.in-Some.ensures n
+    (ap (λ z. body_at o c.in-Some.chosen ++ z) c.in_ok-keep-in-Some.ensures.same) (c.places.invariant kinds rest n r)
 
-pub returns-in-None : goal.returns-in-None
-returns-in-None g c = λ kinds rest n r.
-    fail (rules (table c.args.table) g.notes) (table c.args.table) kinds g.notes c.args.at c.in-Rule.rule c.args.next
-    c.loop-top.stack c.pop.new.self c.in-Some.top rest c.loop-top.events
-    (exact (table c.args.table) g.notes c.requires) c.in-Some.ensures c.in-Rule.is c.in-None.ensures n
-    (c.loop-top.invariant kinds rest n r)
+pub returns-in-None-choose : goal.returns-in-None-choose
+returns-in-None-choose g c = let o = table c.args.table in λ kinds rest n r.
+    fail (rules o g.notes) o kinds g.notes c.args.at c.in-Some-Rule.rule c.args.next
+    (left o (c.places.place ∷ c.places.stack)) (left o ((c.places.place + 2) ∷ c.places.stack))
+    c.in-Some-Rule.field-0 rest c.places.events (exact o g.notes c.requires)
+    (opened o c.places.place c.places.stack c.in-Some-Rule.field-0 c.in-Some-Rule.ensures.same)
+    c.in-Some-Rule.field-0-is c.in-None-choose.ensures n (c.places.invariant kinds rest n r)
