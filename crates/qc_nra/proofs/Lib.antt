@@ -1,3 +1,4 @@
+pub mod Adding
 pub mod ConstantsSound
 pub mod DatumTypes
 pub mod FormsSound

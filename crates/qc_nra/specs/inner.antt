@@ -1,2 +1,4 @@
+pub mod Added
+pub mod Held
 pub mod Induction
 pub mod Infers

@@ -1,13 +1,15 @@
-// The outcome of trees in 64 bits. A form with two parts evaluates one and hands its value on, with the other.
+// The outcome of trees in 64 bits. A form with two parts evaluates one and lends its value to what takes the other.
 ghost use Rattle.qc_data.specs.Outcome.{and_then, bits64, Gives};
 ghost use Rattle.qc_nra.specs.Forms as forms;
 ghost use Rattle.qc_nra.specs.Meaning.{nra};
+ghost use Rattle.qc_nra.specs.inner.Added.{Adds};
+ghost use Rattle.qc_nra.specs.inner.Held.{GivesHeld};
 ghost use Rattle.qc_ops.specs.Operators.{binary, unary};
 
-use crate::operands::{
-    append, beside, bool_of, fields_of, global_of, items_of, only_bag, product_of,
-};
+use crate::lending::{Held, lend};
+use crate::operands::{add_beside, bool_of, fields_of, global_of, items_of, only_bag, product_of};
 use crate::tree::Nra;
+use qc_containers::Share;
 use qc_data::{Datum, Halt, Items, copy};
 use qc_ops::{Binary, Unary, apply1, apply2};
 use qc_types::World;
@@ -33,36 +35,36 @@ pub fn eval_at(
         Nra::Global(name) => global_of(alloc, world, name),
         Nra::Unary(op, a) => of_one(alloc, a.get(), world, input, env, op),
         Nra::Binary(op, a, b) => {
-            let x = eval_at(alloc, a.get(), world, input, env)?;
-            of_right(alloc, b.get(), world, input, env, op, x)
+            let x = held(alloc, a.get(), &*world, &*input, &*env)?;
+            of_right(alloc, b.get(), world, input, env, op, x.get())
         }
         Nra::Comp(a, b) => {
-            let v = eval_at(alloc, b.get(), world, input, env)?;
-            with_input(alloc, a.get(), world, env, v)
+            let v = held(alloc, b.get(), &*world, &*input, &*env)?;
+            eval_at(alloc, a.get(), world, v.get(), env)
         }
         Nra::Map(a, b) => {
-            let v = eval_at(alloc, b.get(), world, input, env)?;
-            map_of(alloc, a.get(), world, env, v)
+            let v = held(alloc, b.get(), &*world, &*input, &*env)?;
+            map_of(alloc, a.get(), world, env, v.get())
         }
         Nra::Select(a, b) => {
-            let v = eval_at(alloc, b.get(), world, input, env)?;
-            select_of(alloc, a.get(), world, env, v)
+            let v = held(alloc, b.get(), &*world, &*input, &*env)?;
+            select_of(alloc, a.get(), world, env, v.get())
         }
         Nra::Product(a, b) => {
-            let v = eval_at(alloc, a.get(), world, input, env)?;
-            product_with(alloc, b.get(), world, input, env, v)
+            let v = held(alloc, a.get(), &*world, &*input, &*env)?;
+            product_with(alloc, b.get(), world, input, env, v.get())
         }
         Nra::DepJoin(a, b) => {
-            let v = eval_at(alloc, b.get(), world, input, env)?;
-            join_of(alloc, a.get(), world, env, v)
+            let v = held(alloc, b.get(), &*world, &*input, &*env)?;
+            join_of(alloc, a.get(), world, env, v.get())
         }
         Nra::Default(a, b) => {
-            let v = eval_at(alloc, a.get(), world, input, env)?;
-            default_of(alloc, b.get(), world, input, env, v)
+            let v = held(alloc, a.get(), &*world, &*input, &*env)?;
+            default_of(alloc, b.get(), world, input, env, v.get())
         }
         Nra::EnvComp(a, b) => {
-            let v = eval_at(alloc, b.get(), world, input, env)?;
-            with_env(alloc, a.get(), world, input, v)
+            let v = held(alloc, b.get(), &*world, &*input, &*env)?;
+            eval_at(alloc, a.get(), world, input, v.get())
         }
         Nra::MapEnv(a) => env_map_of(alloc, a.get(), world, input, env),
         Nra::Either(a, b) => match input {
@@ -80,6 +82,23 @@ pub fn eval_at(
     }
 }
 
+// The outcome of an operand, which is not copied where it stands somewhere.
+#[cycle(eval)]
+fn held<'a>(
+    alloc: Global,
+    q: &'a Nra,
+    world: &'a World,
+    input: &'a Datum,
+    env: &'a Datum,
+) -> Result<Held<'a>, Halt>
+    ensures { GivesHeld (nra bits64 world.now q.now input.now env.now) result }
+{
+    match lend(q, world, input, env) {
+        Some(value) => Ok(Held::Lent(value)),
+        None => Ok(Held::Made(eval_at(alloc, &*q, &*world, &*input, &*env)?)),
+    }
+}
+
 // An operator on the value of a tree.
 #[cycle(eval)]
 fn of_one(
@@ -93,8 +112,8 @@ fn of_one(
     ensures { Gives (and_then (nra bits64 world.now a.now input.now env.now) (unary bits64 world.now.classes op.now))
         result }
 {
-    let x = eval_at(alloc, a, world, input, env)?;
-    apply1(alloc, world.classes(), op, &x)
+    let x = held(alloc, &*a, &*world, &*input, &*env)?;
+    apply1(alloc, world.classes(), op, x.get())
 }
 
 // An operator on a left value and the value of a tree.
@@ -106,34 +125,13 @@ fn of_right(
     input: &Datum,
     env: &Datum,
     op: &Binary,
-    x: Datum,
+    x: &Datum,
 ) -> Result<Datum, Halt>
-    ensures { Gives (and_then (nra bits64 world.now b.now input.now env.now) (λ y. binary bits64 op.now x y)) result }
+    ensures { Gives (and_then (nra bits64 world.now b.now input.now env.now) (λ y. binary bits64 op.now x.now y))
+        result }
 {
-    let y = eval_at(alloc, b, world, input, env)?;
-    apply2(alloc, op, &x, &y)
-}
-
-// A tree with a value as its input.
-#[cycle(eval)]
-fn with_input(
-    alloc: Global,
-    a: &Nra,
-    world: &World,
-    env: &Datum,
-    input: Datum,
-) -> Result<Datum, Halt>
-    ensures { Gives (nra bits64 world.now a.now input env.now) result }
-{
-    eval_at(alloc, a, world, &input, env)
-}
-
-// A tree with a value as its environment.
-#[cycle(eval)]
-fn with_env(alloc: Global, a: &Nra, world: &World, input: &Datum, env: Datum) -> Result<Datum, Halt>
-    ensures { Gives (nra bits64 world.now a.now input.now env) result }
-{
-    eval_at(alloc, a, world, input, &env)
+    let y = held(alloc, &*b, &*world, &*input, &*env)?;
+    apply2(alloc, op, x, y.get())
 }
 
 // The truth value of a condition.
@@ -142,8 +140,8 @@ fn with_env(alloc: Global, a: &Nra, world: &World, input: &Datum, env: Datum) ->
 fn truth(alloc: Global, test: &Nra, world: &World, input: &Datum, env: &Datum) -> Result<bool, Halt>
     ensures { Gives (forms.truth (nra bits64 world.now test.now input.now env.now)) result }
 {
-    let holds = eval_at(alloc, test, world, input, env)?;
-    bool_of(&holds)
+    let holds = held(alloc, &*test, &*world, &*input, &*env)?;
+    bool_of(holds.get())
 }
 
 // What a body makes of each member of a collection as its input.
@@ -154,11 +152,11 @@ fn map_of(
     body: &Nra,
     world: &World,
     env: &Datum,
-    source: Datum,
+    source: &Datum,
 ) -> Result<Datum, Halt>
-    ensures { Gives (forms.map_of (nra bits64 world.now body.now) env.now source) result }
+    ensures { Gives (forms.map_of (nra bits64 world.now body.now) env.now source.now) result }
 {
-    let items = items_of(&source)?;
+    let items = items_of(source)?;
     let mut all = Items::new(alloc);
     for item in items.as_slice() {
         all.add(eval_at(alloc, body, world, item, env)?)?;
@@ -174,11 +172,11 @@ fn select_of(
     body: &Nra,
     world: &World,
     env: &Datum,
-    source: Datum,
+    source: &Datum,
 ) -> Result<Datum, Halt>
-    ensures { Gives (forms.select_of (nra bits64 world.now body.now) env.now source) result }
+    ensures { Gives (forms.select_of (nra bits64 world.now body.now) env.now source.now) result }
 {
-    let items = items_of(&source)?;
+    let items = items_of(source)?;
     let mut all = Items::new(alloc);
     for item in items.as_slice() {
         if truth(alloc, body, world, item, env)? {
@@ -196,51 +194,51 @@ fn product_with(
     world: &World,
     input: &Datum,
     env: &Datum,
-    first: Datum,
+    first: &Datum,
 ) -> Result<Datum, Halt>
-    ensures { Gives (and_then (nra bits64 world.now b.now input.now env.now) (forms.product_of first)) result }
+    ensures { Gives (and_then (nra bits64 world.now b.now input.now env.now) (forms.product_of first.now)) result }
 {
-    let second = eval_at(alloc, b, world, input, env)?;
-    product_of(alloc, &first, &second)
+    let second = held(alloc, &*b, &*world, &*input, &*env)?;
+    product_of(alloc, first, second.get())
 }
 
 // Each record of a collection with the members that a body gives for it.
 #[cycle(eval)]
-#[tactic(auto, using(qc_data::proofs::Outcomes::gather_is), unfolding(crate::specs::Forms::join_of))]
+#[tactic(auto, using(crate::proofs::Adding::gather_added), unfolding(crate::specs::Forms::join_of))]
 fn join_of(
     alloc: Global,
     body: &Nra,
     world: &World,
     env: &Datum,
-    source: Datum,
+    source: &Datum,
 ) -> Result<Datum, Halt>
-    ensures { Gives (forms.join_of (nra bits64 world.now body.now) env.now source) result }
+    ensures { Gives (forms.join_of (nra bits64 world.now body.now) env.now source.now) result }
 {
-    let items = items_of(&source)?;
+    let items = items_of(source)?;
     let mut all = Items::new(alloc);
     for item in items.as_slice() {
-        let more = joined(alloc, body, world, env, item)?;
-        append(alloc, &mut all, more.as_slice())?;
+        add_joined(alloc, body, world, env, item, &mut all)?;
     }
     Ok(Datum::Coll(all))
 }
 
-// One record with the members that a body gives for it.
+// Puts one record with the members that a body gives for it last.
 #[cycle(eval)]
-#[tactic(auto, unfolding(crate::specs::Forms::joined))]
-fn joined(
+#[tactic(auto, using(crate::proofs::Adding::added_halt), unfolding(crate::specs::Forms::joined))]
+fn add_joined(
     alloc: Global,
     body: &Nra,
     world: &World,
     env: &Datum,
     first: &Datum,
-) -> Result<Items, Halt>
-    ensures { Gives (forms.joined (nra bits64 world.now body.now) env.now first.now) result }
+    all: &mut Items,
+) -> Result<(), Halt>
+    ensures { Adds (forms.joined (nra bits64 world.now body.now) env.now first.now) all.old all.new result }
 {
     fields_of(first)?;
-    let members = eval_at(alloc, body, world, first, env)?;
-    let items = items_of(&members)?;
-    beside(alloc, items.as_slice(), first)
+    let members = held(alloc, &*body, &*world, &*first, &*env)?;
+    let items = items_of(members.get())?;
+    add_beside(alloc, all, items.as_slice(), first)
 }
 
 // A collection that has members, or else the one that a tree gives.
@@ -252,14 +250,12 @@ fn default_of(
     world: &World,
     input: &Datum,
     env: &Datum,
-    first: Datum,
+    first: &Datum,
 ) -> Result<Datum, Halt>
-    ensures { Gives (forms.default_of (nra bits64 world.now other.now input.now env.now) first) result }
+    ensures { Gives (forms.default_of (nra bits64 world.now other.now input.now env.now) first.now) result }
 {
-    match first {
-        Datum::Coll(items) => members_or(alloc, other, world, input, env, items),
-        _ => Err(Halt::Stuck),
-    }
+    let items = items_of(first)?;
+    members_or(alloc, other, world, input, env, items)
 }
 
 // The members, or where there are none the collection that a tree gives.
@@ -271,14 +267,14 @@ fn members_or(
     world: &World,
     input: &Datum,
     env: &Datum,
-    items: Items,
+    items: &Items,
 ) -> Result<Datum, Halt>
-    ensures { Gives (forms.members_or (nra bits64 world.now other.now input.now env.now) items) result }
+    ensures { Gives (forms.members_or (nra bits64 world.now other.now input.now env.now) items.now) result }
 {
     if items.as_slice().is_empty() {
         only_bag(eval_at(alloc, other, world, input, env)?)
     } else {
-        Ok(Datum::Coll(items))
+        Ok(Datum::Coll(items.share(alloc)?))
     }
 }
 

@@ -6,6 +6,7 @@ mod counting;
 mod evaluating;
 mod inferring;
 mod language;
+mod lending;
 mod operands;
 mod operator_texts;
 mod parts;

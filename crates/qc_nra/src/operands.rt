@@ -1,12 +1,14 @@
 // Operands by their kind, and collections of joined records.
-ghost use Rattle.std.specs.Prelude.{◌++◌, ◌≡◌, OnOk};
 ghost use Rattle.qc_data.specs.Kinds.{as_coll};
-ghost use Rattle.qc_data.specs.Outcome.{gather, Gives, GivesRef};
+ghost use Rattle.qc_data.specs.Outcome.{and_then, gather, Gives, GivesRef, Value};
+ghost use Rattle.qc_data.specs.declared.data.Datum.TheVariants.{Rec};
 ghost use Rattle.qc_nra.specs.Forms as forms;
+ghost use Rattle.qc_nra.specs.inner.Added.{Adds};
 ghost use Rattle.qc_ops.specs.Operands.{as_bool, as_rec, bag, found};
+ghost use Rattle.qc_ops.specs.Records.{concatenation};
 ghost use Rattle.qc_types.specs.Schemas.{global};
 
-use qc_containers::{Memory, Name};
+use qc_containers::{Name, Share};
 use qc_data::{Datum, Fields, Halt, Items, copy};
 use qc_ops::{Binary, apply2};
 use qc_types::World;
@@ -73,36 +75,52 @@ pub(crate) fn product_of(alloc: Global, first: &Datum, second: &Datum) -> Result
 }
 
 // The same of their members.
-#[tactic(auto, using(qc_data::proofs::Outcomes::gather_is))]
+#[tactic(auto, using(crate::proofs::Adding::gather_added))]
 fn pairs(alloc: Global, first: &[Datum], second: &[Datum]) -> Result<Items, Halt>
     ensures { Gives (gather (forms.beside second.now) first.now) result }
 {
     let mut all = Items::new(alloc);
     for item in first {
-        let more = beside(alloc, second, item)?;
-        append(alloc, &mut all, more.as_slice())?;
+        add_beside(alloc, &mut all, second, item)?;
     }
     Ok(all)
 }
 
-// A record with each of the members.
-#[tactic(auto, using(qc_data::proofs::Outcomes::gather_is), unfolding(crate::specs::Forms::beside))]
-pub(crate) fn beside(alloc: Global, members: &[Datum], first: &Datum) -> Result<Items, Halt>
-    ensures { Gives (forms.beside members.now first.now) result }
+// Puts a record with each of the members last.
+#[tactic(auto, using(crate::proofs::Adding::beside_added))]
+pub(crate) fn add_beside(
+    alloc: Global,
+    all: &mut Items,
+    members: &[Datum],
+    first: &Datum,
+) -> Result<(), Halt>
+    ensures { Adds (forms.beside members.now first.now) all.old all.new result }
 {
-    let mut all = Items::new(alloc);
     for member in members {
-        all.add(apply2(alloc, &Binary::Cat, first, member)?)?;
-    }
-    Ok(all)
-}
-
-// Puts copies of the members last.
-pub(crate) fn append(alloc: Global, all: &mut Items, more: &[Datum]) -> Result<(), Memory>
-    ensures { OnOk result (all.new ≡ all.old ++ more.now) }
-{
-    for item in more {
-        all.add(copy(alloc, item)?)?;
+        all.add(joined_record(alloc, first, member)?)?;
     }
     Ok(())
+}
+
+// The fields of two records, the second's on shared names. Behind a record without fields the second one is shared.
+#[tactic(auto, using(crate::proofs::Adding::behind_none))]
+fn joined_record(alloc: Global, first: &Datum, member: &Datum) -> Result<Datum, Halt>
+    ensures { Gives (concatenation first.now member.now) result }
+{
+    let fields = fields_of(first)?;
+    if fields.len() == 0 {
+        only_record(alloc, member)
+    } else {
+        apply2(alloc, &Binary::Cat, first, member)
+    }
+}
+
+// A copy of the record that the datum is.
+fn only_record(alloc: Global, d: &Datum) -> Result<Datum, Halt>
+    ensures { Gives (and_then (as_rec d.now) (λ fields. Value (Rec fields))) result }
+{
+    match d {
+        Datum::Rec(fields) => Ok(Datum::Rec(fields.share(alloc)?)),
+        _ => Err(Halt::Stuck),
+    }
 }

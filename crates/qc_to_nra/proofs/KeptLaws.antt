@@ -1,6 +1,5 @@
 -- Outcomes that keep values, up to a relation, and lists place by place.
-use Rattle.std.proofs.Common.{◌≡◌, Bool, true, false, List, [], ◌∷◌, ◌++◌, map, refl, sym, ap, ◌∙◌, cond, subst}
-use Rattle.std.specs.List.{AllByRecursion}
+use Rattle.std.proofs.Common.{◌≡◌, Bool, true, false, List, [], ◌∷◌, ◌++◌, map, refl, sym, cond, subst}
 use Rattle.std.specs.Ordering.{is_gt}
 use Rattle.std.specs.declared.cmp.Ordering.{Ordering}
 use Rattle.qc_data.specs.Order.{insert_by, sort_by}
@@ -38,22 +37,9 @@ pub same_by : {A B C : Type 0} (R : A → B → Type 0) (o : Outcome A) (p : Out
 same_by R (Value a) p f g h k = rw h.1 (k a h.0 h.2)
 same_by R (Halts why) p f g h k = tt
 
-pub same_kept : {A : Type 0} (o p : Outcome A) → IsKept o p → Kept (λ a b. a ≡ b) o p
-same_kept (Value a) p h = (a, h, refl)
-same_kept (Halts why) p h = tt
-
-pub kept_is : {A : Type 0} (o p : Outcome A) → Kept (λ a b. a ≡ b) o p → IsKept o p
-kept_is (Value a) p h = h.1 ∙ ap Value (sym h.2)
-kept_is (Halts why) p h = tt
-
--- a weaker relation
-pub kept_weaker : {A B : Type 0} (R S : A → B → Type 0) (o : Outcome A) (p : Outcome B)
-    → ((a : A) (b : B) → R a b → S a b) → Kept R o p → Kept S o p
-kept_weaker R S (Value a) p f h = (h.0, h.1, f a h.0 h.2)
-kept_weaker R S (Halts why) p f h = tt
-
 -- the same first outcome
-pub kept_from : {A B : Type 0} (R : A → B → Type 0) (o o' : Outcome A) (p : Outcome B) → o ≡ o' → Kept R o' p → Kept R o p
+pub kept_from : {A B : Type 0} (R : A → B → Type 0) (o o' : Outcome A) (p : Outcome B) → o ≡ o' → Kept R o' p
+    → Kept R o p
 kept_from R o o' p e h = subst (λ o. Kept R o p) (sym e) h
 
 -- the same second outcome
@@ -78,13 +64,9 @@ pub each_values : {A B : Type 0} (f : A → Outcome B) (g : A → B) (xs : List 
 each_values f g [] h = refl
 each_values f g (x ∷ xs) h = let first = h x in let rest = each_values f g xs h in rw (first, rest) refl
 
-pub each_itself : {A : Type 0} (xs : List A) → each (λ x. Value x) xs ≡ Value xs
-each_itself [] = refl
-each_itself (x ∷ xs) = let rest = each_itself xs in rw rest refl
-
-pub each_one : {A B : Type 0} (f : A → Outcome B) (x : A) (y : B) → f x ≡ Value y
-    → each f (x ∷ []) ≡ Value (y ∷ [])
-each_one f x y h = rw h refl
+pub each_more : {A B : Type 0} (f : A → Outcome B) (x : A) (xs : List A) (y : B) (ys : List B) → f x ≡ Value y
+    → each f xs ≡ Value ys → each f (x ∷ xs) ≡ Value (y ∷ ys)
+each_more f x xs y ys h k = rw (h, k) refl
 
 -- ---- lists
 
@@ -94,20 +76,6 @@ zip_append R [] us [] vs h k = k
 zip_append R [] us (y ∷ ys) vs h k = absurd h
 zip_append R (x ∷ xs) us [] vs h k = absurd h
 zip_append R (x ∷ xs) us (y ∷ ys) vs h k = (h.0, zip_append R xs us ys vs h.1 k)
-
-pub zip_map : {A B C D : Type 0} (R : A → B → Type 0) (S : C → D → Type 0) (f : A → C) (g : B → D) (xs : List A)
-    (ys : List B) → ((a : A) (b : B) → R a b → S (f a) (g b)) → Zip R xs ys → Zip S (map f xs) (map g ys)
-zip_map R S f g [] [] k h = tt
-zip_map R S f g [] (y ∷ ys) k h = absurd h
-zip_map R S f g (x ∷ xs) [] k h = absurd h
-zip_map R S f g (x ∷ xs) (y ∷ ys) k h = (k x y h.0, zip_map R S f g xs ys k h.1)
-
--- lists that are the same place by place
-pub zip_same : {A : Type 0} (xs ys : List A) → Zip (λ a b. a ≡ b) xs ys → xs ≡ ys
-zip_same [] [] h = refl
-zip_same [] (y ∷ ys) h = absurd h
-zip_same (x ∷ xs) [] h = absurd h
-zip_same (x ∷ xs) (y ∷ ys) h = let first = h.0 in let rest = zip_same xs ys h.1 in λ i. first i ∷ rest i
 
 pub zip_itself : {A : Type 0} (xs : List A) → Zip (λ a b. a ≡ b) xs xs
 zip_itself [] = tt
@@ -126,28 +94,6 @@ zip_left R S f [] [] k h = tt
 zip_left R S f [] (y ∷ ys) k h = absurd h
 zip_left R S f (x ∷ xs) [] k h = absurd h
 zip_left R S f (x ∷ xs) (y ∷ ys) k h = (k x y h.0, zip_left R S f xs ys k h.1)
-
-pub zip_before : {A B C : Type 0} (S : C → B → Type 0) (f : A → C) (xs : List A) (ys : List B) → Zip S (map f xs) ys
-    → Zip (λ a b. S (f a) b) xs ys
-zip_before S f [] [] h = tt
-zip_before S f [] (y ∷ ys) h = absurd h
-zip_before S f (x ∷ xs) [] h = absurd h
-zip_before S f (x ∷ xs) (y ∷ ys) h = (h.0, zip_before S f xs ys h.1)
-
--- what holds of each of the first
-pub zip_all : {A B : Type 0} (R : A → B → Type 0) (P : A → Type 0) (xs : List A) (ys : List B)
-    → ((a : A) (b : B) → R a b → P a) → Zip R xs ys → AllByRecursion P xs
-zip_all R P [] [] k h = tt
-zip_all R P [] (y ∷ ys) k h = absurd h
-zip_all R P (x ∷ xs) [] k h = absurd h
-zip_all R P (x ∷ xs) (y ∷ ys) k h = (k x y h.0, zip_all R P xs ys k h.1)
-
-pub zip_with : {A B : Type 0} (R : A → B → Type 0) (P : A → Type 0) (xs : List A) (ys : List B) → Zip R xs ys
-    → AllByRecursion P xs → Zip (λ a b. R a b × P a) xs ys
-zip_with R P [] [] h k = tt
-zip_with R P [] (y ∷ ys) h k = absurd h
-zip_with R P (x ∷ xs) [] h k = absurd h
-zip_with R P (x ∷ xs) (y ∷ ys) h k = ((h.0, k.0), zip_with R P xs ys h.1 k.1)
 
 -- values that the members of the second give
 pub zip_values : {A B C : Type 0} (R : A → B → Type 0) (S : A → C → Type 0) (g : B → Outcome C) (xs : List A)

@@ -1,6 +1,6 @@
 -- What each form of the algebra means, by its parts.
 use Rattle.std.proofs.Common.{◌≡◌, ℕ, List, cond, rules, sym, ap, ◌∙◌}
-use Rattle.qc_data.specs.Outcome.{Mode, Outcome, Value, and_then}
+use Rattle.qc_data.specs.Outcome.{Mode, Value, and_then}
 use Rattle.qc_data.specs.declared.data.Datum.{Datum}
 use Rattle.qc_ops.specs.declared.op.Binary.{Binary}
 use Rattle.qc_ops.specs.declared.op.Unary.{Unary}

@@ -19,7 +19,8 @@ use Rattle.qc_to_nra.proofs.OqlSizes.{query_fits}
 -- the value of the query
 pub answered : (q : Query) (r : Result Nra Memory) → IfOk r (λ made. made ≡ query_tree q)
     → IfOk r (λ made. (m : Mode) (w : WorldOf) → IsKept (query m w q) (nra m w made Nothing (Rec [])))
-answered q (Ok made) e = λ m w. subst (λ t. IsKept (query m w q) (nra m w t Nothing (Rec []))) (sym e) (kept_query m w q)
+answered q (Ok made) e =
+    λ m w. subst (λ t. IsKept (query m w q) (nra m w t Nothing (Rec []))) (sym e) (kept_query m w q)
 answered q (Err x) e = tt
 
 -- the size of the query

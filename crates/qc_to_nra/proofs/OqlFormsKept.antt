@@ -1,5 +1,5 @@
 -- The trees for forms other than operators and `select` keep their values.
-use Rattle.std.proofs.Common.{◌≡◌, ℕ, Bool, true, false, cond, List, [], ◌∷◌, ◌++◌, map, refl, sym, ap, ◌∙◌, subst, rules}
+use Rattle.std.proofs.Common.{◌≡◌, ℕ, Bool, true, false, cond, List, [], ◌∷◌, ◌++◌, map, refl, sym, ap, ◌∙◌, subst}
 use Rattle.std.specs.Prelude.{not}
 use Rattle.std.specs.List.{list_any, list_all}
 use Rattle.qc_containers.specs.Name.{is_name}
@@ -21,7 +21,6 @@ use Rattle.qc_ops.specs.Bags.{bag_of, membership, union}
 use Rattle.qc_ops.specs.declared.op.Unary.TheVariants as one
 use Rattle.qc_ops.specs.declared.op.Binary.TheVariants as two
 use Rattle.qc_ops.specs.Operands.{as_bool, bool_at, bag, only_if}
-use Rattle.qc_ops.specs.Operators.{unary, binary}
 use Rattle.qc_ops.specs.Records.{concatenation, record_of as one_field}
 use Rattle.qc_ops.specs.Sameness.{same}
 use Rattle.qc_ops.specs.Truths.{negation}
@@ -30,13 +29,13 @@ use Rattle.qc_types.specs.Schemas.{WorldOf}
 use Rattle.qc_oql_tree.specs.declared.tree.Quantifier.{Quantifier}
 use Rattle.qc_oql_tree.specs.declared.tree.Quantifier.TheVariants.{Exists, ForAll}
 use Rattle.qc_oql_tree.specs.Bindings.{Bindings, Meaning}
-use Rattle.qc_oql_tree.specs.FormMeanings.{NamedMeaning, bound, truth, matched, chosen, decides, decided, tested}
-use Rattle.qc_oql_tree.specs.FormMeanings.{quantified, collected, field_of, record_of, structured}
+use Rattle.qc_oql_tree.specs.FormMeanings.{NamedMeaning, bound, truth, matched, chosen, decides, quantified, collected}
+use Rattle.qc_oql_tree.specs.FormMeanings.{field_of, record_of, structured}
 use Rattle.qc_to_nra.specs.inner.OqlForms.{Translation, NamedTranslation, Scope, struct_tree, bag_tree, match_tree}
 use Rattle.qc_to_nra.specs.inner.OqlForms.{if_tree, decided_tree, quantified_tree, bound_tree}
 use Rattle.qc_to_nra.proofs.Environments.{Holds, Same, SameNamed, go_on, same_bound, concatenated}
-use Rattle.qc_to_nra.proofs.KeptLaws.{Kept, Zip, kept_same as same_then, kept_at, kept_by, same_by, kept_each, zip_itself}
-use Rattle.qc_to_nra.proofs.KeptLaws.{zip_made}
+use Rattle.qc_to_nra.proofs.KeptLaws.{Kept, Zip, kept_same as same_then, kept_at, kept_by, same_by, kept_each}
+use Rattle.qc_to_nra.proofs.KeptLaws.{zip_itself, zip_made}
 use Rattle.qc_to_nra.proofs.NraForms.{nra-Const, nra-Unary, nra-Binary, nra-Map, nra-If}
 use Rattle.qc_to_nra.proofs.OqlOperators.{kept_to, kept_from, negated, same_sides}
 

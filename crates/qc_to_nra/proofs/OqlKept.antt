@@ -6,7 +6,6 @@ use Rattle.qc_data.specs.Outcome.{Mode, IsKept}
 use Rattle.qc_data.specs.declared.data.Datum.TheVariants.{Int, Rec, Text, Unit as Nothing}
 use Rattle.qc_nra.specs.Meaning.{nra}
 use Rattle.qc_ops.specs.declared.op.Unary.TheVariants as one
-use Rattle.qc_ops.specs.Operators.{unary}
 use Rattle.qc_ops.specs.Records.{field}
 use Rattle.qc_ops.specs.Texts.{likeness}
 use Rattle.qc_types.proofs.Inductions.{AllOf}
@@ -30,7 +29,8 @@ use Rattle.qc_oql_tree.specs.Meaning.{form, filter_form, key_form, named_form, o
 use Rattle.qc_oql_tree.specs.Meaning.{key, named, order, select, query}
 use Rattle.qc_oql_tree.proofs.MeaningForms.{select_roll}
 use Rattle.qc_to_nra.specs.inner.OqlForms.{Translation, NamedTranslation, KeyTranslation}
-use Rattle.qc_to_nra.specs.inner.OqlTrees.{oql_tree, filter_tree, key_tree, named_tree, order_tree, part_tree, query_tree}
+use Rattle.qc_to_nra.specs.inner.OqlTrees.{oql_tree, filter_tree, key_tree, named_tree, order_tree, part_tree}
+use Rattle.qc_to_nra.specs.inner.OqlTrees.{query_tree}
 use Rattle.qc_to_nra.specs.inner.OqlTrees as trees
 use Rattle.qc_to_nra.proofs.Environments.{Same, SameNamed, nothing_bound, same_name}
 use Rattle.qc_to_nra.proofs.KeptLaws.{Zip}
@@ -38,7 +38,8 @@ use Rattle.qc_to_nra.proofs.NraForms.{nra-Const}
 use Rattle.qc_to_nra.proofs.OqlFormsKept.{same_bag, same_if, same_match, same_quantified, same_struct}
 use Rattle.qc_to_nra.proofs.OqlInduction.{OfSome, PartsHold, all_named, all_oql}
 use Rattle.qc_to_nra.proofs.OqlOperators.{same_after, same_branded, same_divided, same_one, same_two}
-use Rattle.qc_to_nra.proofs.OqlSelect.{Beside, SameKey}
+use Rattle.qc_to_nra.proofs.OqlOrder.{SameKey}
+use Rattle.qc_to_nra.proofs.OqlSelect.{Beside}
 use Rattle.qc_to_nra.proofs.OqlSelected.{same_defined, same_selected}
 use Rattle.qc_to_nra.proofs.OqlTreeForms.{select_roll as part_roll}
 
@@ -98,7 +99,8 @@ module _ (m : Mode) (w : WorldOf) where
   layer (Oql-F.Binary at op a b) h = same_two m w op (oql m w a) (oql m w b) (oql_tree a) (oql_tree b) h.0 h.1
   layer (Oql-F.Divide at q a k) h = same_divided m w q k (oql m w a) (oql_tree a) h
   layer (Oql-F.Like at a pattern) h =
-      same_after m w (likeness pattern) (one.Like pattern) (oql m w a) (oql_tree a) (λ v. kept_same (likeness pattern v))
+      same_after m w (likeness pattern) (one.Like pattern) (oql m w a) (oql_tree a)
+      (λ v. kept_same (likeness pattern v))
       h
   layer (Oql-F.Dot at a label) h =
       same_after m w (field label) (one.Dot label) (oql m w a) (oql_tree a) (λ v. kept_same (field label v)) h

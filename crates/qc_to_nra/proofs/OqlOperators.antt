@@ -3,15 +3,14 @@ use Rattle.std.proofs.Common.{◌≡◌, ℕ, ℤ, Bool, true, false, cond, List
 use Rattle.std.proofs.Common.{◌∙◌, subst}
 use Rattle.std.specs.Prelude.{not}
 use Rattle.std.specs.Ordering.{is_gt}
-use Rattle.std.specs.declared.cmp.Ordering.{Ordering}
 use Rattle.qc_containers.specs.Name.{is_name}
 use Rattle.qc_data.proofs.CanonLaws.{canon-Coll}
-use Rattle.qc_data.proofs.KindLaws.{out-Coll, as_coll-Coll}
+use Rattle.qc_data.proofs.KindLaws.{out-Coll}
 use Rattle.qc_data.proofs.Outcomes.{bind_assoc, kept_same, kept_then}
 use Rattle.qc_data.proofs.SameLaws.{Same-refl}
-use Rattle.qc_data.specs.Kinds.{as_coll, coll_at}
+use Rattle.qc_data.specs.Kinds.{coll_at}
 use Rattle.qc_data.specs.Order.{canon, cmp, insert_by, sort_by, Same as Alike}
-use Rattle.qc_data.specs.Outcome.{Mode, Outcome, Value, Halts, Stuck, and_then, IsKept}
+use Rattle.qc_data.specs.Outcome.{Mode, Outcome, Value, Halts, and_then, IsKept}
 use Rattle.qc_data.specs.declared.data.Datum.{Datum}
 use Rattle.qc_data.specs.declared.data.Datum.TheOpen.{Datum-F}
 use Rattle.qc_data.specs.declared.data.Datum.TheViews.{out-Datum, roll-Datum}
@@ -23,7 +22,6 @@ use Rattle.qc_nra.specs.Meaning.{nra}
 use Rattle.qc_ops.proofs.SameTests.{same_is}
 use Rattle.qc_ops.specs.declared.op.Unary.{Unary as OnOne}
 use Rattle.qc_ops.specs.declared.op.Unary.TheVariants as one
-use Rattle.qc_ops.specs.declared.op.Binary.{Binary as OnTwo}
 use Rattle.qc_ops.specs.declared.op.Binary.TheVariants as two
 use Rattle.qc_ops.specs.Operands.{only_if}
 use Rattle.qc_ops.specs.Operators.{unary, binary}
@@ -37,13 +35,13 @@ use Rattle.qc_oql_tree.specs.declared.tree.Binary.{Binary}
 use Rattle.qc_oql_tree.specs.declared.tree.Branding.{Branding}
 use Rattle.qc_oql_tree.specs.declared.tree.Division.{Division}
 use Rattle.qc_oql_tree.specs.declared.tree.Unary.{Unary}
-use Rattle.qc_oql_tree.specs.Bindings.{Bindings, Meaning}
-use Rattle.qc_oql_tree.specs.OperatorMeanings.{after, one_value, of_two, divided, branded, branding, division, has_member}
-use Rattle.qc_oql_tree.specs.OperatorMeanings.{is_divisor, is_some_list, side_at, by_side}
+use Rattle.qc_oql_tree.specs.Bindings.{Meaning}
+use Rattle.qc_oql_tree.specs.OperatorMeanings.{after, one_value, of_two, divided, branded, branding, division}
+use Rattle.qc_oql_tree.specs.OperatorMeanings.{has_member, is_divisor, is_some_list, side_at, by_side}
 use Rattle.qc_oql_tree.specs.inner.Pairings.{on_one, at_one, pairing_of, by_pairing}
 use Rattle.qc_oql_tree.proofs.Pairings.{one_is, two_is}
-use Rattle.qc_to_nra.specs.inner.OqlForms.{Translation, Scope, has_member_tree, one_tree, two_tree}
-use Rattle.qc_to_nra.proofs.Environments.{Holds, Same, go_on}
+use Rattle.qc_to_nra.specs.inner.OqlForms.{Translation, has_member_tree, one_tree, two_tree}
+use Rattle.qc_to_nra.proofs.Environments.{Same}
 use Rattle.qc_to_nra.proofs.NraForms.{nra-Const, nra-Input, nra-Unary, nra-Binary, nra-Comp, nra-Either}
 
 -- the same tree in another form

@@ -1,6 +1,5 @@
 -- The trees for `select` and for definitions keep their values.
-use Rattle.std.proofs.Common.{◌≡◌, Bool, true, false, cond, List, [], ◌∷◌, ◌++◌, map, Option, refl, sym, ap, ◌∙◌, subst}
-use Rattle.qc_data.proofs.KindLaws.{out-Coll}
+use Rattle.std.proofs.Common.{◌≡◌, Bool, true, false, List, [], ◌∷◌, ◌++◌, map, Option, refl, sym, ap, ◌∙◌, subst}
 use Rattle.qc_data.proofs.Outcomes.{bind_assoc}
 use Rattle.qc_data.specs.Kinds.{as_coll}
 use Rattle.qc_data.specs.Outcome.{Mode, Outcome, Value, Halts, and_then, each, IsKept}
@@ -18,18 +17,18 @@ use Rattle.qc_types.specs.Schemas.{WorldOf}
 use Rattle.qc_oql_tree.specs.Bindings.{Bindings, Meaning}
 use Rattle.qc_oql_tree.specs.FormMeanings.{NamedMeaning}
 use Rattle.qc_oql_tree.specs.Meaning.{defined}
-use Rattle.qc_oql_tree.specs.SelectMeaning.{KeyMeaning, distinct_if, filtered, ordered, rows_from, rows_of, selected}
+use Rattle.qc_oql_tree.specs.SelectMeaning.{KeyMeaning, distinct_if, filtered, ordered, rows_of, selected}
 use Rattle.qc_to_nra.specs.inner.OqlForms.{Translation, NamedTranslation, KeyTranslation, Scope, at_row, binding}
 use Rattle.qc_to_nra.specs.inner.OqlForms.{distinct_tree, filtered_tree, ordered_tree, rows_tree, select_tree}
 use Rattle.qc_to_nra.specs.inner.OqlForms.{with_sources}
 use Rattle.qc_to_nra.specs.inner.OqlTrees.{defined_tree}
 use Rattle.qc_to_nra.proofs.Environments.{Holds, Same, SameNamed, binding_is, go_on, holds_more, with_field}
-use Rattle.qc_to_nra.proofs.KeptLaws.{Kept, Zip, kept_at, kept_by, kept_each, kept_from}
+use Rattle.qc_to_nra.proofs.KeptLaws.{Kept, Zip, kept_at, kept_by, kept_each}
 use Rattle.qc_to_nra.proofs.NraForms.{nra-Env, nra-EnvComp, nra-Map, nra-Unary}
 use Rattle.qc_to_nra.proofs.OqlFormsKept.{kept_bag}
 use Rattle.qc_to_nra.proofs.OqlOperators.{kept_from as same_from, kept_to}
-use Rattle.qc_to_nra.proofs.OqlSelect.{Beside, Row, Rows, SameKey, at_row_is, filtered_kept, on_members, ordered_kept}
-use Rattle.qc_to_nra.proofs.OqlSelect.{rows_kept}
+use Rattle.qc_to_nra.proofs.OqlOrder.{SameKey, ordered_kept}
+use Rattle.qc_to_nra.proofs.OqlSelect.{Beside, Row, Rows, at_row_is, filtered_kept, on_members, rows_kept}
 
 -- four steps, one after another
 in_steps : {A B C D E : Type 0} (o : Outcome A) (f : A → Outcome B) (g : B → Outcome C) (h : C → Outcome D)

@@ -1,5 +1,5 @@
 -- How large the tree for a query is.
-use Rattle.std.proofs.Common.{◌≡◌, ℕ, ◌+◌, ◌*◌, ◌≤◌, Bool, true, false, cond, List, [], ◌∷◌, map, arith, refl}
+use Rattle.std.proofs.Common.{◌≡◌, ℕ, ◌+◌, ◌*◌, ◌≤◌, Bool, true, false, cond, List, [], ◌∷◌, map, arith}
 use Rattle.std.specs.Prelude.{Option, Some, None, option_map, codes, sum, sum_by}
 use Rattle.std.proofs.lemmas.List.Sums.{sum_by-cons}
 use Rattle.qc_data.specs.declared.data.Datum.TheVariants as datum
@@ -18,7 +18,6 @@ use Rattle.qc_oql_tree.specs.declared.tree.Oql.TheViews.{roll-Oql, roll-Filter, 
 use Rattle.qc_oql_tree.specs.declared.tree.Oql.TheViews.{roll-Select}
 use Rattle.qc_oql_tree.specs.declared.tree.Oql.TheFolds.{fold-roll-Oql, fold-roll-Filter, fold-roll-Key}
 use Rattle.qc_oql_tree.specs.declared.tree.Oql.TheFolds.{fold-roll-Named, fold-roll-Order, fold-roll-Select, map-Oql}
-use Rattle.qc_oql_tree.specs.declared.tree.Direction.{Direction}
 use Rattle.qc_oql_tree.specs.declared.tree.Filter.{Filter}
 use Rattle.qc_oql_tree.specs.declared.tree.Key.{Key}
 use Rattle.qc_oql_tree.specs.declared.tree.Named.{Named}
@@ -29,15 +28,14 @@ use Rattle.qc_oql_tree.specs.declared.tree.Query.{Query}
 use Rattle.qc_oql_tree.specs.declared.tree.Select.{Select}
 use Rattle.qc_oql_tree.specs.FormMeanings.{constant}
 use Rattle.qc_oql_tree.specs.OperatorMeanings.{branding, division}
-use Rattle.qc_oql_tree.specs.SelectMeaning.{is_ascending}
 use Rattle.qc_oql_tree.specs.Sizes.{oql_node, filter_node, key_node, named_node, order_node, select_node, part}
 use Rattle.qc_oql_tree.specs.Sizes.{filter_size, key_size, named_size, order_size, select_size, query_size}
 use Rattle.qc_oql_tree.specs.Sizes.{size as oql_size}
 use Rattle.qc_oql_tree.specs.inner.Pairings.{on_one, pairing_of}
 use Rattle.qc_to_nra.specs.inner.OqlForms.{Translation, NamedTranslation, KeyTranslation, Scope, is_bound, binding}
-use Rattle.qc_to_nra.specs.inner.OqlForms.{under, bound_tree, has_member_tree, one_tree, two_tree, folded, struct_tree}
-use Rattle.qc_to_nra.specs.inner.OqlForms.{field_before, member_before, bag_tree, decided_tree, at_row, joined_tree}
-use Rattle.qc_to_nra.specs.inner.OqlForms.{rows_tree, with_sources, filtered_tree, keyed_tree, sorted_tree}
+use Rattle.qc_to_nra.specs.inner.OqlForms.{under, bound_tree, one_tree, two_tree, folded, struct_tree, field_before}
+use Rattle.qc_to_nra.specs.inner.OqlForms.{bag_tree, decided_tree, at_row, joined_tree, rows_tree, with_sources}
+use Rattle.qc_to_nra.specs.inner.OqlForms.{filtered_tree, key_fields, key_names, numeral, row_field, sorted_tree}
 use Rattle.qc_to_nra.specs.inner.OqlForms.{ordered_tree, distinct_tree, select_tree}
 use Rattle.qc_to_nra.specs.inner.OqlTrees as trees
 use Rattle.qc_to_nra.specs.inner.OqlTrees.{oql_tree, filter_tree, key_tree, named_tree, order_tree, part_tree}
@@ -68,7 +66,12 @@ small_at_row a = omega (arith, size-EnvComp a tree.Input, size-Input)
 small_one : (o : Option OnOne) (a : Nra) → size (one_tree o a) ≤ 3 + size a
 small_one None a =
     let equal = tree.Binary two.Eq a (tree.Const (datum.Coll [])) in
-    omega (arith, size-Unary one.Not equal, size-Binary two.Eq a (tree.Const (datum.Coll [])), size-Const (datum.Coll []))
+    omega (
+      arith,
+      size-Unary one.Not equal,
+      size-Binary two.Eq a (tree.Const (datum.Coll [])),
+      size-Const (datum.Coll []),
+    )
 small_one (Some op) a = omega (arith, size-Unary op a)
 
 small_two : (o : Option Pairing) (a b : Nra) → size (two_tree o a b) ≤ 3 + (size a + size b)
@@ -107,33 +110,19 @@ small_joined source s rows =
       small_at_row (source.1 s),
     )
 
-small_keyed : (a : Nra) → size (keyed_tree a) ≡ 6 + size a
-small_keyed a =
-    let key = tree.Unary (one.Rec (codes "key")) (at_row a) in
-    let row = tree.Unary (one.Rec (codes "row")) tree.Input in
-    omega (
-      arith,
-      size-Binary two.Cat key row,
-      size-Unary (one.Rec (codes "key")) (at_row a),
-      small_at_row a,
-      size-Unary (one.Rec (codes "row")) tree.Input,
-      size-Input,
-    )
-
-small_sorted : (key : Nra × Direction) (rows : Nra)
-    → size (sorted_tree key rows) ≡ 11 + (size key.0 + size rows)
-small_sorted key rows =
+small_sorted : (fields : List (List ℕ × Nra)) (names : List (List ℕ × Bool)) (rows : Nra)
+    → size (sorted_tree fields names rows) ≡ 5 + (size (folded field_before fields row_field) + size rows)
+small_sorted fields names rows =
     let row = tree.Unary (one.Dot (codes "row")) tree.Input in
-    let pairs = tree.Map (keyed_tree key.0) rows in
-    let order = one.Order ((codes "key", is_ascending key.1) ∷ []) in
+    let keyed = folded field_before fields row_field in
+    let pairs = tree.Map keyed rows in
     omega (
       arith,
-      size-Map row (tree.Unary order pairs),
+      size-Map row (tree.Unary (one.Order names) pairs),
       size-Unary (one.Dot (codes "row")) tree.Input,
       size-Input,
-      size-Unary order pairs,
-      size-Map (keyed_tree key.0) rows,
-      small_keyed key.0,
+      size-Unary (one.Order names) pairs,
+      size-Map keyed rows,
     )
 
 -- ---- the claims
@@ -146,11 +135,9 @@ Fits t n = (s : Scope) → size (t s) + 4 ≤ 32 * n
 abbrev FitsPart : Translation → ℕ → Type 0
 FitsPart t n = (s : Scope) → size (t s) + 36 ≤ 32 * n
 
--- an order, with the rows that it sorts
+-- an order, by the fields for its keys
 abbrev FitsOrder : List KeyTranslation → ℕ → Type 0
-FitsOrder ts n =
-    (s : Scope) (rows : Nra)
-    → size (folded sorted_tree (map (λ key. (key.0 s, key.1)) ts) rows) ≤ size rows + 32 * n
+FitsOrder ts n = (s : Scope) → size (folded field_before (key_fields 0 ts s) row_field) + 30 ≤ 32 * n
 
 abbrev OfOql : Oql → Type 0
 OfOql x = Fits (oql_tree x) (oql_size x)
@@ -201,16 +188,24 @@ members_fit (x ∷ xs) h s =
     sum_by-cons (λ n. n) (oql_size x) (map oql_size xs) in
     omega (arith, first, later, all, size-Binary two.Union single rest, size-Unary one.Single (oql_tree x s))
 
-keys_fit : (ks : List Key) → AllOf OfKey ks → (s : Scope) (rows : Nra)
-    → size (folded sorted_tree (map (λ key. (key.0 s, key.1)) (map key_tree ks)) rows)
-    ≤ size rows + 32 * sum (map key_size ks)
-keys_fit [] h s rows = omega arith
-keys_fit (k ∷ ks) h s rows =
-    let rest = folded sorted_tree (map (λ key. (key.0 s, key.1)) (map key_tree ks)) rows in
-    let first = h.0 s in let later = keys_fit ks h.1 s rows in
+keys_fit : (n : ℕ) (ks : List Key) → AllOf OfKey ks → (s : Scope)
+    → size (folded field_before (key_fields n (map key_tree ks) s) row_field) ≤ 2 + 32 * sum (map key_size ks)
+keys_fit n [] h s = omega (arith, size-Unary (one.Rec (codes "row")) tree.Input, size-Input)
+keys_fit n (k ∷ ks) h s =
+    let rest = folded field_before (key_fields (n + 1) (map key_tree ks) s) row_field in
+    let value = at_row ((key_tree k).0 s) in
+    let first = h.0 s in let later = keys_fit (n + 1) ks h.1 s in
     let all : sum (map key_size (k ∷ ks)) ≡ key_size k + sum (map key_size ks) =
     sum_by-cons (λ n. n) (key_size k) (map key_size ks) in
-    omega (arith, first, later, all, small_sorted ((key_tree k).0 s, (key_tree k).1) rest)
+    omega (
+      arith,
+      first,
+      later,
+      all,
+      size-Binary two.Cat (tree.Unary (one.Rec (numeral (n + 1))) value) rest,
+      size-Unary (one.Rec (numeral (n + 1))) value,
+      small_at_row ((key_tree k).0 s),
+    )
 
 rows_fit : (bs : List Named) → AllOf OfNamed bs → (s : Scope) (rows : Nra)
     → size (rows_tree (map named_tree bs) s rows) ≤ size rows + 32 * sum (map named_size bs)
@@ -232,7 +227,10 @@ filter_fits (Some f) h s rows =
 order_fits : (o : Option Order) → OfSome OfOrder o → (s : Scope) (rows : Nra)
     → size (ordered_tree (option_map order_tree o) s rows) ≤ size rows + 32 * part (option_map order_size o)
 order_fits None h s rows = omega arith
-order_fits (Some o) h s rows = h s rows
+order_fits (Some o) h s rows =
+    let fields = h s in
+    let keys = order_tree o in
+    omega (arith, fields, small_sorted (key_fields 0 keys s) (key_names 0 (map (λ key. key.1) keys)) rows)
 
 -- ---- each type of the trees, at its outermost layer
 
@@ -338,7 +336,7 @@ of_order x h =
     trees.form trees.filter_form trees.key_form trees.named_form trees.order_form trees.select_form x in
     let counted : order_size (roll-Order x) ≡ 1 + sum (map key_size x.keys) =
     fold-roll-Order ℕ ℕ ℕ ℕ ℕ ℕ oql_node filter_node key_node named_node order_node select_node x in
-    rw (made, counted) (λ s rows. let keys = keys_fit x.keys h s rows in omega (arith, keys))
+    rw (made, counted) (λ s. let keys = keys_fit 0 x.keys h s in omega (arith, keys))
 
 select_counted : (d : Bool) (v : Oql) (bs : List Named) (f : Option Filter) (o : Option Order)
     → select_size (roll-Select (record { distinct = d; value = v; sources = bs; filter = f; order = o }))

@@ -33,7 +33,8 @@ use Rattle.qc_to_nra.specs.inner.OqlTrees.{filter_tree, key_tree, named_tree, or
 
 layer : (x : Oql-F Oql Filter Key Named Order Select) (t : Oql) (s : Scope) → roll-Oql x ≡ t
     → oql_tree t s ≡ form (map-Oql Oql Filter Key Named Order Select Translation Translation KeyTranslation
-    NamedTranslation (List KeyTranslation) Translation oql_tree filter_tree key_tree named_tree order_tree part_tree x) s
+    NamedTranslation (List KeyTranslation) Translation oql_tree filter_tree key_tree named_tree order_tree part_tree x)
+    s
 layer x t s e =
     ap (λ t. oql_tree t s) (sym e)
     ∙ ap (λ f. f s) (fold-roll-Oql Translation Translation KeyTranslation NamedTranslation (List KeyTranslation)

@@ -1,6 +1,6 @@
 -- The rows of sources, one source after another.
-use Rattle.std.proofs.Common.{◌≡◌, ℕ, suc, ◌+◌, ◌<◌, List, [], ◌∷◌, ◌++◌, length, get_or, drop, take, map, refl, sym, ap}
-use Rattle.std.proofs.Common.{◌∙◌, add-one, drop-cons}
+use Rattle.std.proofs.Common.{◌≡◌, ℕ, suc, ◌+◌, ◌<◌, List, [], ◌∷◌, ◌++◌, length, get_or, drop, take, map, refl, sym}
+use Rattle.std.proofs.Common.{ap, ◌∙◌, add-one, drop-cons}
 use Rattle.std.proofs.Math.Seq.{take-suc}
 use Rattle.std.proofs.lemmas.List.{map-append}
 use Rattle.qc_nra.specs.declared.tree.Nra.{Nra}
@@ -23,7 +23,8 @@ names_more : (sources : List Named) (i : ℕ) (source : Named) (s : Scope) → i
     → with_sources (map named_tree (take (suc i) sources)) s
     ≡ (named_tree source).0 ∷ with_sources (map named_tree (take i sources)) s
 names_more sources i source s lt is =
-    ap (λ l. with_sources (map named_tree l) s) (take-suc sources i source lt ∙ ap (λ x. take i sources ++ x ∷ []) (sym is))
+    ap (λ l. with_sources (map named_tree l) s)
+    (take-suc sources i source lt ∙ ap (λ x. take i sources ++ x ∷ []) (sym is))
     ∙ ap (λ l. with_sources l s) (map-append named_tree (take i sources) (source ∷ []))
     ∙ with_last (map named_tree (take i sources)) (named_tree source) s
 

@@ -1,3 +1,4 @@
+pub mod HasNames
 pub mod OqlForms
 pub mod OqlTrees
 pub mod Scopes

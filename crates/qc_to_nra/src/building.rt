@@ -1,27 +1,33 @@
 // Trees of the algebra from their parts, and names from texts.
-ghost use Rattle.std.specs.Prelude.{◌≡◌, IfOk};
+ghost use Rattle.std.specs.Prelude.{◌≡◌, IfOk, IsTrue};
+ghost use Rattle.qc_containers.specs.Name.{is_name};
 ghost use Rattle.qc_nra.specs.declared.tree.Nra.TheVariants as nra;
 
-use qc_containers::{Boxed, Chars, Memory, Name};
+use qc_containers::{Boxed, Chars, Memory, Name, NameFault};
 use qc_nra::Nra;
 use qc_ops::{Binary, Unary};
 use std::alloc::Global;
 
-// The name that the text is. A typed query has none but names where this is called; another text is answered as if
-// memory were wanting.
+// The name that the text is.
 pub(crate) fn name_of(alloc: Global, text: &Chars) -> Result<Name, Memory>
+    requires { IsTrue (is_name text.now) }
     ensures { IfOk result (λ name. name ≡ text.now) }
 {
-    Name::spelled(text.copy(alloc)?).ok_or(Memory)
+    match Name::spelled(text.copy(alloc)?) {
+        Some(name) => Ok(name),
+        None => unreachable!(),
+    }
 }
 
 // The name of a field of the pass's own.
 pub(crate) fn own_name(alloc: Global, text: &str) -> Result<Name, Memory>
+    requires { IsTrue (is_name text.now) }
     ensures { IfOk result (λ name. name ≡ text.now) }
 {
     match Name::of(alloc, text) {
         Ok(name) => Ok(name),
-        Err(_) => Err(Memory),
+        Err(NameFault::Memory) => Err(Memory),
+        Err(NameFault::BadName) => unreachable!(),
     }
 }
 

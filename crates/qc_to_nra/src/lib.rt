@@ -2,6 +2,7 @@
 #![tactic(auto)]
 
 mod building;
+mod key_names;
 mod oql;
 mod oql_expressions;
 mod oql_forms;

@@ -1,33 +1,39 @@
 // The trees of the algebra for expressions. The scope has the names that the environment has as its fields.
-ghost use Rattle.std.specs.Prelude.{◌≡◌, map, option_map, IfOk};
+ghost use Rattle.std.specs.Prelude.{◌≡◌, map, option_map, IfOk, IsTrue};
+ghost use Rattle.qc_containers.specs.Name.{is_name};
+ghost use Rattle.qc_data.specs.Facts.{all_true};
 ghost use Rattle.qc_nra.specs.declared.tree.Nra.TheVariants as nra;
 ghost use Rattle.qc_oql_tree.specs.FormMeanings as meanings;
-ghost use Rattle.qc_oql_tree.specs.OperatorMeanings.{branding, division};
+ghost use Rattle.qc_oql_tree.specs.OperatorMeanings.{branding, division, is_divisor};
 ghost use Rattle.qc_oql_tree.specs.inner.Pairings.{on_one, pairing_of};
 ghost use Rattle.qc_ops.specs.declared.op.Unary.TheVariants as one;
+ghost use Rattle.qc_to_nra.specs.inner.HasNames.{filter_has_names, has_names, key_has_names, named_has_names};
+ghost use Rattle.qc_to_nra.specs.inner.HasNames.{order_has_names, part_names, select_has_names};
 ghost use Rattle.qc_to_nra.specs.inner.OqlForms as forms;
 ghost use Rattle.qc_to_nra.specs.inner.OqlTrees as trees;
 ghost use Rattle.qc_to_nra.specs.inner.Scopes.{names_of};
 
 use crate::building::{comp, conditional, either, map_over, name_of, select, unary};
+use crate::key_names::{names_of_keys, numeral};
 use crate::oql_forms::{
     at_row, bag_of, decided, distinct_if, joined, of_one, of_two, record_of, sorted_by, under,
 };
 use crate::scope::{Scope, is_bound};
-use qc_containers::{Chars, Memory};
+use qc_containers::{Chars, Memory, Name};
 use qc_data::Datum;
 use qc_nra::Nra;
 use qc_ops::{Divisor, Unary as OnOne};
 use qc_oql_tree::{
-    Binary, Branding, Constant, Direction, Division, Filter, Key, Named, Oql, Order, Quantifier,
-    Select, Unary, branding, division, on_one, pairing_of,
+    Binary, Branding, Constant, Division, Filter, Key, Named, Oql, Order, Quantifier, Select,
+    Unary, branding, division, on_one, pairing_of,
 };
 use std::alloc::Global;
 
 // An expression.
 #[cycle(lowering)]
-#[tactic(auto, using(crate::proofs::OqlTreeForms::by_form))]
+#[tactic(auto, using(crate::proofs::NameForms::by_names, crate::proofs::OqlTreeForms::by_form))]
 pub(crate) fn tree_of(alloc: Global, scope: &Scope, of: &Oql) -> Result<Nra, Memory>
+    requires { IsTrue (has_names of.now) }
     ensures { IfOk result (λ made. made ≡ trees.oql_tree of.now (names_of scope.now)) }
 {
     match of {
@@ -67,6 +73,7 @@ pub(crate) fn tree_of(alloc: Global, scope: &Scope, of: &Oql) -> Result<Nra, Mem
 // An operator of one operand.
 #[cycle(lowering)]
 fn of_operand(alloc: Global, scope: &Scope, operator: Unary, a: &Oql) -> Result<Nra, Memory>
+    requires { IsTrue (has_names a.now) }
     ensures { IfOk result
         (λ made. made ≡ forms.one_tree (on_one operator) (trees.oql_tree a.now (names_of scope.now))) }
 {
@@ -83,6 +90,7 @@ fn with_left(
     operator: Binary,
     left: Nra,
 ) -> Result<Nra, Memory>
+    requires { IsTrue (has_names b.now) }
     ensures { IfOk result
         (λ made. made ≡ forms.two_tree (pairing_of operator) left (trees.oql_tree b.now (names_of scope.now))) }
 {
@@ -90,8 +98,9 @@ fn with_left(
     of_two(alloc, pairing_of(operator), left, right)
 }
 
-// A division by a literal. A typed query has no divisor 0; one is answered as if memory were wanting.
+// A division by a literal.
 #[cycle(lowering)]
+#[tactic(auto, using(crate::proofs::NameForms::no_divisor))]
 fn of_division(
     alloc: Global,
     scope: &Scope,
@@ -99,11 +108,13 @@ fn of_division(
     a: &Oql,
     k: i64,
 ) -> Result<Nra, Memory>
+    requires operand { IsTrue (has_names a.now) }
+    requires divisor { IsTrue (is_divisor k) }
     ensures { IfOk result
         (λ made. made ≡ nra.Unary (division operator k) (trees.oql_tree a.now (names_of scope.now))) }
 {
     let Some(divisor) = Divisor::of(k) else {
-        return Err(Memory);
+        unreachable!();
     };
     let a = tree_of(alloc, scope, a)?;
     unary(alloc, division(operator, divisor), a)
@@ -112,6 +123,7 @@ fn of_division(
 // A text against a pattern.
 #[cycle(lowering)]
 fn of_like(alloc: Global, scope: &Scope, a: &Oql, pattern: &Chars) -> Result<Nra, Memory>
+    requires { IsTrue (has_names a.now) }
     ensures { IfOk result
         (λ made. made ≡ nra.Unary (one.Like pattern.now) (trees.oql_tree a.now (names_of scope.now))) }
 {
@@ -123,6 +135,8 @@ fn of_like(alloc: Global, scope: &Scope, a: &Oql, pattern: &Chars) -> Result<Nra
 // A field of a record.
 #[cycle(lowering)]
 fn of_dot(alloc: Global, scope: &Scope, a: &Oql, label: &Chars) -> Result<Nra, Memory>
+    requires operand { IsTrue (has_names a.now) }
+    requires label { IsTrue (is_name label.now) }
     ensures { IfOk result
         (λ made. made ≡ nra.Unary (one.Dot label.now) (trees.oql_tree a.now (names_of scope.now))) }
 {
@@ -140,6 +154,8 @@ fn of_class(
     class: &Chars,
     a: &Oql,
 ) -> Result<Nra, Memory>
+    requires operand { IsTrue (has_names a.now) }
+    requires class { IsTrue (is_name class.now) }
     ensures { IfOk result
         (λ made. made ≡ nra.Unary (branding operator class.now) (trees.oql_tree a.now (names_of scope.now))) }
 {
@@ -151,6 +167,7 @@ fn of_class(
 // A choice by the side of the input, with the body for right values.
 #[cycle(lowering)]
 fn with_right(alloc: Global, scope: &Scope, body: &Named, left: Nra) -> Result<Nra, Memory>
+    requires { IsTrue (named_has_names body.now) }
     ensures { IfOk result
         (λ made. made ≡ nra.Either left (forms.bound_tree (trees.named_tree body.now) (names_of scope.now))) }
 {
@@ -161,6 +178,7 @@ fn with_right(alloc: Global, scope: &Scope, body: &Named, left: Nra) -> Result<N
 // A choice by the side of an operand.
 #[cycle(lowering)]
 fn matched(alloc: Global, scope: &Scope, a: &Oql, sides: Nra) -> Result<Nra, Memory>
+    requires { IsTrue (has_names a.now) }
     ensures { IfOk result (λ made. made ≡ nra.Comp sides (trees.oql_tree a.now (names_of scope.now))) }
 {
     let a = tree_of(alloc, scope, a)?;
@@ -170,6 +188,7 @@ fn matched(alloc: Global, scope: &Scope, a: &Oql, sides: Nra) -> Result<Nra, Mem
 // A condition with its branches, of which the first is there.
 #[cycle(lowering)]
 fn last_branch(alloc: Global, scope: &Scope, no: &Oql, test: Nra, yes: Nra) -> Result<Nra, Memory>
+    requires { IsTrue (has_names no.now) }
     ensures { IfOk result (λ made. made ≡ nra.If test yes (trees.oql_tree no.now (names_of scope.now))) }
 {
     let no = tree_of(alloc, scope, no)?;
@@ -185,6 +204,7 @@ fn quantified(
     quantifier: Quantifier,
     holds: Nra,
 ) -> Result<Nra, Memory>
+    requires { IsTrue (named_has_names source.now) }
     ensures { IfOk result (λ made. made
         ≡ forms.decided_tree quantifier (nra.Map holds ((trees.named_tree source.now).1 (names_of scope.now)))) }
 {
@@ -195,6 +215,7 @@ fn quantified(
 
 // A name: a field of the environment, where it is bound, or else a global.
 fn name_tree(alloc: Global, scope: &Scope, name: &Chars) -> Result<Nra, Memory>
+    requires { IsTrue (is_name name.now) }
     ensures { IfOk result (λ made. made ≡ forms.name_tree name.now (names_of scope.now)) }
 {
     let bound = is_bound(scope, name);
@@ -219,8 +240,9 @@ fn constant_of(constant: Constant) -> Datum
 
 // The expression beside a name.
 #[cycle(lowering)]
-#[tactic(auto, using(crate::proofs::OqlTreeForms::named_is))]
+#[tactic(auto, using(crate::proofs::NameForms::by_names, crate::proofs::OqlTreeForms::named_is))]
 pub(crate) fn named_tree(alloc: Global, scope: &Scope, named: &Named) -> Result<Nra, Memory>
+    requires { IsTrue (named_has_names named.now) }
     ensures { IfOk result (λ made. made ≡ (trees.named_tree named.now).1 (names_of scope.now)) }
 {
     tree_of(alloc, scope, &named.of)
@@ -228,8 +250,9 @@ pub(crate) fn named_tree(alloc: Global, scope: &Scope, named: &Named) -> Result<
 
 // A body with its name bound to the input.
 #[cycle(lowering)]
-#[tactic(auto, using(crate::proofs::OqlTreeForms::named_is))]
+#[tactic(auto, using(crate::proofs::NameForms::by_names, crate::proofs::OqlTreeForms::named_is))]
 fn bound(alloc: Global, scope: &Scope, body: &Named) -> Result<Nra, Memory>
+    requires { IsTrue (named_has_names body.now) }
     ensures { IfOk result (λ made. made ≡ forms.bound_tree (trees.named_tree body.now) (names_of scope.now)) }
 {
     let inner = Scope::Bind(&body.name, &*scope);
@@ -240,6 +263,8 @@ fn bound(alloc: Global, scope: &Scope, body: &Named) -> Result<Nra, Memory>
 // A condition with a name bound to the input.
 #[cycle(lowering)]
 fn tested(alloc: Global, scope: &Scope, test: &Oql, name: &Chars) -> Result<Nra, Memory>
+    requires test { IsTrue (has_names test.now) }
+    requires name { IsTrue (is_name name.now) }
     ensures { IfOk result (λ made. made ≡ forms.bound_tree (name.now, trees.oql_tree test.now) (names_of scope.now)) }
 {
     let inner = Scope::Bind(&*name, &*scope);
@@ -249,8 +274,9 @@ fn tested(alloc: Global, scope: &Scope, test: &Oql, name: &Chars) -> Result<Nra,
 
 // The record of the fields.
 #[cycle(lowering)]
-#[tactic(auto, using(crate::proofs::OqlTreeForms::named_is))]
+#[tactic(auto, using(crate::proofs::NameForms::by_names, crate::proofs::OqlTreeForms::named_is))]
 fn structured(alloc: Global, scope: &Scope, fields: &[Named]) -> Result<Nra, Memory>
+    requires { IsTrue (all_true (map named_has_names fields.now)) }
     ensures { IfOk result (λ made. made ≡ forms.struct_tree (map trees.named_tree fields.now) (names_of scope.now)) }
 {
     let mut made = Vec::new(alloc);
@@ -267,7 +293,9 @@ fn structured(alloc: Global, scope: &Scope, fields: &[Named]) -> Result<Nra, Mem
 
 // The collection of the members.
 #[cycle(lowering)]
+#[tactic(auto, using(crate::proofs::NameForms::by_names))]
 fn collected(alloc: Global, scope: &Scope, members: &[Oql]) -> Result<Nra, Memory>
+    requires { IsTrue (all_true (map has_names members.now)) }
     ensures { IfOk result (λ made. made ≡ forms.bag_tree (map trees.oql_tree members.now) (names_of scope.now)) }
 {
     let mut made = Vec::new(alloc);
@@ -283,8 +311,9 @@ fn collected(alloc: Global, scope: &Scope, members: &[Oql]) -> Result<Nra, Memor
 
 // What stands behind `select`.
 #[cycle(lowering)]
-#[tactic(auto, using(crate::proofs::OqlTreeForms::select_is))]
+#[tactic(auto, using(crate::proofs::NameForms::by_names, crate::proofs::OqlTreeForms::select_is))]
 fn selected(alloc: Global, scope: &Scope, select: &Select) -> Result<Nra, Memory>
+    requires { IsTrue (select_has_names select.now) }
     ensures { IfOk result (λ made. made ≡ trees.part_tree select.now (names_of scope.now)) }
 {
     let sources = select.sources.as_slice();
@@ -299,6 +328,7 @@ fn selected(alloc: Global, scope: &Scope, select: &Select) -> Result<Nra, Memory
 // The value on each row.
 #[cycle(lowering)]
 fn values_of(alloc: Global, scope: &Scope, value: &Oql, rows: Nra) -> Result<Nra, Memory>
+    requires { IsTrue (has_names value.now) }
     ensures { IfOk result
         (λ made. made ≡ nra.Map (forms.at_row (trees.oql_tree value.now (names_of scope.now))) rows) }
 {
@@ -309,8 +339,9 @@ fn values_of(alloc: Global, scope: &Scope, value: &Oql, rows: Nra) -> Result<Nra
 
 // The rows that the sources make, of the one row that is the environment.
 #[cycle(lowering)]
-#[tactic(auto, using(crate::proofs::OqlTreeForms::named_is))]
+#[tactic(auto, using(crate::proofs::NameForms::by_names, crate::proofs::OqlTreeForms::named_is))]
 fn rows_of(alloc: Global, scope: &Scope, sources: &[Named]) -> Result<Nra, Memory>
+    requires { IsTrue (all_true (map named_has_names sources.now)) }
     ensures { IfOk result (λ made. made ≡ forms.rows_tree (map trees.named_tree sources.now) (names_of scope.now)
         (nra.Unary one.Single nra.Env)) }
 {
@@ -325,8 +356,9 @@ fn rows_of(alloc: Global, scope: &Scope, sources: &[Named]) -> Result<Nra, Memor
 
 // The rows that the condition keeps, if there is one.
 #[cycle(lowering)]
-#[tactic(auto, using(crate::proofs::OqlTreeForms::filter_is))]
+#[tactic(auto, using(crate::proofs::NameForms::by_names, crate::proofs::OqlTreeForms::filter_is))]
 fn filtered(alloc: Global, scope: &Scope, filter: &Option<Filter>, rows: Nra) -> Result<Nra, Memory>
+    requires { IsTrue (part_names (option_map filter_has_names filter.now)) }
     ensures { IfOk result
         (λ made. made ≡ forms.filtered_tree (option_map trees.filter_tree filter.now) (names_of scope.now) rows) }
 {
@@ -342,31 +374,37 @@ fn filtered(alloc: Global, scope: &Scope, filter: &Option<Filter>, rows: Nra) ->
 
 // The rows in order, if there are keys.
 #[cycle(lowering)]
-#[tactic(auto, using(crate::proofs::OqlTreeForms::order_is))]
+#[tactic(auto, using(crate::proofs::NameForms::by_names, crate::proofs::OqlTreeForms::order_is))]
 fn ordered(alloc: Global, scope: &Scope, order: &Option<Order>, rows: Nra) -> Result<Nra, Memory>
+    requires { IsTrue (part_names (option_map order_has_names order.now)) }
     ensures { IfOk result
         (λ made. made ≡ forms.ordered_tree (option_map trees.order_tree order.now) (names_of scope.now) rows) }
 {
     match order {
         None => Ok(rows),
         Some(order) => {
-            let keys = keys_of(alloc, scope, order.keys.as_slice())?;
-            sorted_by(alloc, keys, rows)
+            let keys = order.keys.as_slice();
+            let names = names_of_keys(alloc, keys)?;
+            let fields = fields_of_keys(alloc, scope, keys)?;
+            sorted_by(alloc, fields, names, rows)
         }
     }
 }
 
-// The keys with their directions.
+// The values of the keys on a row, each at its name.
 #[cycle(lowering)]
-#[tactic(auto, using(crate::proofs::OqlTreeForms::key_is))]
-fn keys_of(alloc: Global, scope: &Scope, keys: &[Key]) -> Result<Vec<(Nra, Direction)>, Memory>
+#[tactic(auto, using(crate::proofs::NameForms::by_names, crate::proofs::OqlTreeForms::key_is))]
+fn fields_of_keys(alloc: Global, scope: &Scope, keys: &[Key]) -> Result<Vec<(Name, Nra)>, Memory>
+    requires { IsTrue (all_true (map key_has_names keys.now)) }
     ensures { IfOk result
-        (λ made. made.items ≡ map (λ key. (key.0 (names_of scope.now), key.1)) (map trees.key_tree keys.now)) }
+        (λ made. made.items ≡ forms.key_fields 0 (map trees.key_tree keys.now) (names_of scope.now)) }
 {
     let mut made = Vec::new(alloc);
-    for key in keys {
+    for (at, key) in keys.iter().enumerate() {
+        let name = numeral(alloc, at + 1)?;
         let value = tree_of(alloc, scope, &key.of)?;
-        match made.push((value, key.direction)) {
+        let value = at_row(alloc, value)?;
+        match made.push((name, value)) {
             Ok(()) => {}
             Err(_) => return Err(Memory),
         }

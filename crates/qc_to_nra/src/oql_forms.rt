@@ -1,8 +1,8 @@
 // The trees of the algebra for the forms of queries, by the trees for their parts.
-ghost use Rattle.std.specs.Prelude.{◌≡◌, codes, [], ◌∷◌, IfOk};
+ghost use Rattle.std.specs.Prelude.{◌≡◌, codes, [], IfOk, IsTrue};
+ghost use Rattle.qc_containers.specs.Name.{is_name};
 ghost use Rattle.qc_data.specs.declared.data.Datum.TheVariants.{Coll, Rec};
 ghost use Rattle.qc_nra.specs.declared.tree.Nra.TheVariants as nra;
-ghost use Rattle.qc_oql_tree.specs.SelectMeaning.{is_ascending};
 ghost use Rattle.qc_ops.specs.declared.op.Unary.TheVariants as one;
 ghost use Rattle.qc_to_nra.specs.inner.OqlForms as forms;
 
@@ -13,11 +13,12 @@ use qc_containers::{Chars, Memory, Name};
 use qc_data::{Datum, Fields, Items};
 use qc_nra::Nra;
 use qc_ops::{Binary as OnTwo, Keys, Unary as OnOne};
-use qc_oql_tree::{Direction, Pairing, Quantifier};
+use qc_oql_tree::{Pairing, Quantifier};
 use std::alloc::Global;
 
 // The record of one field.
 fn one_field(alloc: Global, name: &Chars, value: Nra) -> Result<Nra, Memory>
+    requires { IsTrue (is_name name.now) }
     ensures { IfOk result (λ made. made ≡ nra.Unary (one.Rec name.now) value) }
 {
     let name = name_of(alloc, name)?;
@@ -26,6 +27,7 @@ fn one_field(alloc: Global, name: &Chars, value: Nra) -> Result<Nra, Memory>
 
 // The environment with the name bound to a value.
 pub(crate) fn binding(alloc: Global, name: &Chars, value: Nra) -> Result<Nra, Memory>
+    requires { IsTrue (is_name name.now) }
     ensures { IfOk result (λ made. made ≡ forms.binding name.now value) }
 {
     let field = one_field(alloc, name, value)?;
@@ -34,6 +36,7 @@ pub(crate) fn binding(alloc: Global, name: &Chars, value: Nra) -> Result<Nra, Me
 
 // A tree with the name bound to the input.
 pub(crate) fn under(alloc: Global, name: &Chars, a: Nra) -> Result<Nra, Memory>
+    requires { IsTrue (is_name name.now) }
     ensures { IfOk result (λ made. made ≡ forms.under name.now a) }
 {
     let bound = binding(alloc, name, Nra::Input)?;
@@ -87,17 +90,24 @@ fn with_field(alloc: Global, label: Name, value: Nra, rest: Nra) -> Result<Nra, 
     binary(alloc, OnTwo::Cat, field, rest)
 }
 
-// The record of the fields in order, of equal labels the last.
+// The fields in order before a record, which goes before them where they share a label.
 #[tactic(auto, using(crate::proofs::Folding::folded_last))]
-pub(crate) fn record_of(alloc: Global, fields: Vec<(Name, Nra)>) -> Result<Nra, Memory>
-    ensures { IfOk result (λ made. made ≡ forms.folded forms.field_before fields.items (nra.Const (Rec []))) }
+fn fields_before(alloc: Global, fields: Vec<(Name, Nra)>, rest: Nra) -> Result<Nra, Memory>
+    ensures { IfOk result (λ made. made ≡ forms.folded forms.field_before fields.items rest) }
 {
     let mut fields = fields;
-    let mut made = Nra::Const(Datum::Rec(Fields::new(alloc)));
+    let mut made = rest;
     while let Some((label, value)) = fields.pop() {
         made = with_field(alloc, label, value, made)?;
     }
     Ok(made)
+}
+
+// The record of the fields in order, of equal labels the last.
+pub(crate) fn record_of(alloc: Global, fields: Vec<(Name, Nra)>) -> Result<Nra, Memory>
+    ensures { IfOk result (λ made. made ≡ forms.folded forms.field_before fields.items (nra.Const (Rec []))) }
+{
+    fields_before(alloc, fields, Nra::Const(Datum::Rec(Fields::new(alloc))))
 }
 
 // A member before the collection of the later ones.
@@ -136,6 +146,7 @@ pub(crate) fn decided(alloc: Global, quantifier: Quantifier, a: Nra) -> Result<N
 
 // The records of each member of a source under its name, on a row.
 fn member_fields(alloc: Global, name: &Chars, source: Nra) -> Result<Nra, Memory>
+    requires { IsTrue (is_name name.now) }
     ensures { IfOk result
         (λ made. made ≡ nra.Map (nra.Unary (one.Rec name.now) nra.Input) (forms.at_row source)) }
 {
@@ -146,99 +157,52 @@ fn member_fields(alloc: Global, name: &Chars, source: Nra) -> Result<Nra, Memory
 
 // Each row with the name bound to each member of the source.
 pub(crate) fn joined(alloc: Global, name: &Chars, source: Nra, rows: Nra) -> Result<Nra, Memory>
+    requires { IsTrue (is_name name.now) }
     ensures { IfOk result (λ made. made ≡ forms.joined_tree (name.now, λ s. source) [] rows) }
 {
     let members = member_fields(alloc, name, source)?;
     dep_join(alloc, members, rows)
 }
 
-// A field of the pass's own.
-fn own_field(alloc: Global, name: &str, a: Nra) -> Result<Nra, Memory>
-    ensures { IfOk result (λ made. made ≡ nra.Unary (one.Rec name.now) a) }
-{
-    let name = own_name(alloc, name)?;
-    unary(alloc, OnOne::Rec(name), a)
-}
-
-// A row and the value of a key on it, at two names.
-fn keyed(alloc: Global, key: Nra) -> Result<Nra, Memory>
-    ensures { IfOk result (λ made. made ≡ forms.keyed_tree key) }
-{
-    let value = at_row(alloc, key)?;
-    let value = own_field(alloc, "key", value)?;
-    let row = own_field(alloc, "row", Nra::Input)?;
-    binary(alloc, OnTwo::Cat, value, row)
-}
-
-// Whether the least value of a key comes first.
-fn is_ascending(direction: Direction) -> bool
-    ensures { result ≡ is_ascending direction }
-{
-    match direction {
-        Direction::Asc => true,
-        Direction::Desc => false,
-    }
-}
-
-// The order by the values of the key.
-fn key_order(alloc: Global, ascending: bool) -> Result<OnOne, Memory>
-    ensures { IfOk result (λ made. made ≡ one.Order ((codes "key", ascending) ∷ [])) }
-{
-    let name = own_name(alloc, "key")?;
-    let mut keys = Keys::new(alloc);
-    keys.add((name, ascending))?;
-    Ok(OnOne::Order(keys))
-}
-
-// The row that stands at a name of its own.
+// The row at a name of its own.
 fn row_field(alloc: Global) -> Result<Nra, Memory>
-    ensures { IfOk result (λ made. made ≡ nra.Unary (one.Dot (codes "row")) nra.Input) }
+    ensures { IfOk result (λ made. made ≡ forms.row_field) }
 {
     let name = own_name(alloc, "row")?;
-    unary(alloc, OnOne::Dot(name), Nra::Input)
+    unary(alloc, OnOne::Rec(name), Nra::Input)
 }
 
-// The rows that stand in a collection at a name of their own.
+// The rows that stand in a collection at their name.
 fn rows_in(alloc: Global, a: Nra) -> Result<Nra, Memory>
     ensures { IfOk result (λ made. made ≡ nra.Map (nra.Unary (one.Dot (codes "row")) nra.Input) a) }
 {
-    let row = row_field(alloc)?;
+    let name = own_name(alloc, "row")?;
+    let row = unary(alloc, OnOne::Dot(name), Nra::Input)?;
     map_over(alloc, row, a)
 }
 
-// The rows, each with the value of a key.
-fn keyed_rows(alloc: Global, key: Nra, rows: Nra) -> Result<Nra, Memory>
-    ensures { IfOk result (λ made. made ≡ nra.Map (forms.keyed_tree key) rows) }
+// The rows, each beside the fields.
+fn keyed_rows(alloc: Global, fields: Vec<(Name, Nra)>, rows: Nra) -> Result<Nra, Memory>
+    ensures { IfOk result (λ made. made
+        ≡ nra.Map (forms.folded forms.field_before fields.items forms.row_field) rows) }
 {
-    let keyed = keyed(alloc, key)?;
+    let row = row_field(alloc)?;
+    let keyed = fields_before(alloc, fields, row)?;
     map_over(alloc, keyed, rows)
 }
 
-// The rows in the order of one key.
-fn sorted(alloc: Global, key: Nra, direction: Direction, rows: Nra) -> Result<Nra, Memory>
-    ensures { IfOk result (λ made. made ≡ forms.sorted_tree (key, direction) rows) }
-{
-    let rows = keyed_rows(alloc, key, rows)?;
-    let order = key_order(alloc, is_ascending(direction))?;
-    let rows = unary(alloc, order, rows)?;
-    rows_in(alloc, rows)
-}
-
-// The rows in the order of the keys, of which the first decides.
-#[tactic(auto, using(crate::proofs::Folding::folded_last))]
+// The rows in the order of the fields.
 pub(crate) fn sorted_by(
     alloc: Global,
-    keys: Vec<(Nra, Direction)>,
+    fields: Vec<(Name, Nra)>,
+    names: Keys,
     rows: Nra,
 ) -> Result<Nra, Memory>
-    ensures { IfOk result (λ made. made ≡ forms.folded forms.sorted_tree keys.items rows) }
+    ensures { IfOk result (λ made. made ≡ forms.sorted_tree fields.items names rows) }
 {
-    let mut keys = keys;
-    let mut made = rows;
-    while let Some((key, direction)) = keys.pop() {
-        made = sorted(alloc, key, direction, made)?;
-    }
-    Ok(made)
+    let keyed = keyed_rows(alloc, fields, rows)?;
+    let sorted = unary(alloc, OnOne::Order(names), keyed)?;
+    rows_in(alloc, sorted)
 }
 
 // The first occurrences, if they alone are wanted.

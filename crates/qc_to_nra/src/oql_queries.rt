@@ -1,5 +1,6 @@
 // The trees of the algebra for queries.
-ghost use Rattle.std.specs.Prelude.{◌≡◌, ◌≤◌, ◌*◌, [], map, IfOk};
+ghost use Rattle.std.specs.Prelude.{◌≡◌, ◌≤◌, ◌*◌, [], map, IfOk, IsTrue};
+ghost use Rattle.qc_data.specs.Facts.{all_true};
 ghost use Rattle.qc_data.specs.Outcome.{IsKept, Mode};
 ghost use Rattle.qc_data.specs.declared.data.Datum.TheVariants.{Rec, Unit as Nothing};
 ghost use Rattle.qc_nra.specs.Meaning.{nra};
@@ -7,6 +8,7 @@ ghost use Rattle.qc_nra.specs.Sizes.{size};
 ghost use Rattle.qc_oql_tree.specs.Meaning as meaning;
 ghost use Rattle.qc_oql_tree.specs.Sizes.{query_size};
 ghost use Rattle.qc_types.specs.Schemas.{WorldOf};
+ghost use Rattle.qc_to_nra.specs.inner.HasNames.{has_names, named_has_names, query_has_names};
 ghost use Rattle.qc_to_nra.specs.inner.OqlTrees as trees;
 ghost use Rattle.qc_to_nra.specs.inner.Scopes.{names_of};
 
@@ -20,7 +22,9 @@ use qc_oql_tree::{Named, Oql, Query};
 use std::alloc::Global;
 
 // The tree for a query, which keeps its value in every mode and world and is at most 32 times as large.
+#[tactic(auto, using(crate::proofs::NameForms::by_names))]
 pub(crate) fn query_tree(alloc: Global, query: &Query) -> Result<Nra, Memory>
+    requires { IsTrue (query_has_names query.now) }
     ensures same { IfOk result (λ made. made ≡ trees.query_tree query.now) }
     ensures keeps { IfOk result
         (λ made. (m : Mode) (w : WorldOf) → IsKept (meaning.query m w query.now) (nra m w made Nothing (Rec []))) }
@@ -30,8 +34,10 @@ pub(crate) fn query_tree(alloc: Global, query: &Query) -> Result<Nra, Memory>
 }
 
 // The expression with what is defined, each definition bound for the later ones.
-#[tactic(auto, using(crate::proofs::OqlTreeForms::named_name))]
+#[tactic(auto, using(crate::proofs::OqlTreeForms::named_name, crate::proofs::NameForms::by_names))]
 fn defined(alloc: Global, scope: &Scope, defines: &[Named], body: &Oql) -> Result<Nra, Memory>
+    requires defines { IsTrue (all_true (map named_has_names defines.now)) }
+    requires body { IsTrue (has_names body.now) }
     ensures { IfOk result (λ made. made
         ≡ trees.defined_tree (map trees.named_tree defines.now) (trees.oql_tree body.now) (names_of scope.now)) }
 {

@@ -1,6 +1,7 @@
 -- The trees of the algebra for the forms of queries, by the trees for their parts. The environment is the record of
 -- what is bound, and the tree for a part does not read the input.
-use Rattle.std.specs.Prelude.{ℕ, ◌||◌, Bool, true, false, cond, codes, List, [], ◌∷◌, map, Option, Some, None}
+use Rattle.std.specs.Prelude.{ℕ, zero, suc, ◌+◌, nat_eq, ◌||◌, Bool, true, false, cond, codes, List, [], ◌∷◌, map}
+use Rattle.std.specs.Prelude.{Option, Some, None}
 use Rattle.std.specs.Str.{bytes_eq}
 use Rattle.qc_data.specs.declared.data.Datum.TheVariants.{Bool as Truth, Coll, Rec}
 use Rattle.qc_nra.specs.declared.tree.Nra.{Nra}
@@ -137,21 +138,41 @@ abbrev pub filtered_tree : Option Translation → Scope → Nra → Nra
 filtered_tree None s rows = rows
 filtered_tree (Some test) s rows = nra.Select (at_row (test s)) rows
 
--- a row and the value of a key on it, at two names
-abbrev pub keyed_tree : Nra → Nra
-keyed_tree a =
-    nra.Binary two.Cat (nra.Unary (one.Rec (codes "key")) (at_row a)) (nra.Unary (one.Rec (codes "row")) nra.Input)
+-- the numeral behind another, of the letters a and b (97 and 98), the lowest digit first
+abbrev pub next_numeral : List ℕ → List ℕ
+next_numeral [] = 97 ∷ []
+next_numeral (c ∷ cs) = cond (nat_eq c 97) (98 ∷ cs) (97 ∷ next_numeral cs)
 
--- the rows in the order of one key; those that tie keep theirs
-abbrev pub sorted_tree : Nra × Direction → Nra → Nra
-sorted_tree key rows =
+-- the numeral of a number: no two are the same
+abbrev pub numeral : ℕ → List ℕ
+numeral zero = []
+numeral (suc n) = next_numeral (numeral n)
+
+-- the values of the keys on a row, at the numerals behind a number
+abbrev pub key_fields : ℕ → List KeyTranslation → Scope → List (List ℕ × Nra)
+key_fields n [] s = []
+key_fields n (key ∷ keys) s = (numeral (n + 1), at_row (key.0 s)) ∷ key_fields (n + 1) keys s
+
+-- the numerals behind a number, each with whether its key is ascending
+abbrev pub key_names : ℕ → List Direction → List (List ℕ × Bool)
+key_names n [] = []
+key_names n (d ∷ ds) = (numeral (n + 1), is_ascending d) ∷ key_names (n + 1) ds
+
+-- the row at a name that is no numeral
+abbrev pub row_field : Nra
+row_field = nra.Unary (one.Rec (codes "row")) nra.Input
+
+-- the rows in the order of fields that are put beside them; those that tie keep theirs
+abbrev pub sorted_tree : List (List ℕ × Nra) → List (List ℕ × Bool) → Nra → Nra
+sorted_tree fields names rows =
     nra.Map (nra.Unary (one.Dot (codes "row")) nra.Input)
-    (nra.Unary (one.Order ((codes "key", is_ascending key.1) ∷ [])) (nra.Map (keyed_tree key.0) rows))
+    (nra.Unary (one.Order names) (nra.Map (folded field_before fields row_field) rows))
 
--- order by: the rows are sorted by the last key first, so that the first one decides
+-- order by
 abbrev pub ordered_tree : Option (List KeyTranslation) → Scope → Nra → Nra
 ordered_tree None s rows = rows
-ordered_tree (Some keys) s rows = folded sorted_tree (map (λ key. (key.0 s, key.1)) keys) rows
+ordered_tree (Some keys) s rows =
+    sorted_tree (key_fields 0 keys s) (key_names 0 (map (λ key. key.1) keys)) rows
 
 -- distinct
 abbrev pub distinct_tree : Bool → Nra → Nra

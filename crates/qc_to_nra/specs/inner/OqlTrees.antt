@@ -17,9 +17,9 @@ use Rattle.qc_oql_tree.specs.declared.tree.Select.{Select}
 use Rattle.qc_oql_tree.specs.FormMeanings.{constant}
 use Rattle.qc_oql_tree.specs.OperatorMeanings.{branding, division}
 use Rattle.qc_oql_tree.specs.inner.Pairings.{on_one, pairing_of}
-use Rattle.qc_to_nra.specs.inner.OqlForms.{Translation, NamedTranslation, KeyTranslation, Scope, name_tree, one_tree}
-use Rattle.qc_to_nra.specs.inner.OqlForms.{two_tree, struct_tree, bag_tree, match_tree, if_tree, quantified_tree}
-use Rattle.qc_to_nra.specs.inner.OqlForms.{select_tree, binding}
+use Rattle.qc_to_nra.specs.inner.OqlForms.{Translation, NamedTranslation, KeyTranslation, name_tree, one_tree, two_tree}
+use Rattle.qc_to_nra.specs.inner.OqlForms.{struct_tree, bag_tree, match_tree, if_tree, quantified_tree, select_tree}
+use Rattle.qc_to_nra.specs.inner.OqlForms.{binding}
 
 -- an expression, by the trees for its parts
 abbrev pub form : Oql-F Translation Translation KeyTranslation NamedTranslation (List KeyTranslation) Translation

@@ -9,12 +9,12 @@ use Rattle.qc_nra.proofs.evaluating.+eval.Goals as goal
 
 pub map_of-returns : goal.map_of-returns
 map_of-returns t c =
-    let is : as_coll c.args.source ≡ Value c.as_slice-item-items.result.now = search rules in
+    let is : as_coll c.args.source.now ≡ Value c.as_slice-item-items.result.now = search rules in
     let none : drop c.loop-item.item-index c.as_slice-item-items.result.now ≡ [] =
     drop_all c.loop-item.item-index c.as_slice-item-items.result.now (omega arith) in
     let made : each (λ x. nra bits64 c.args.world.now c.args.body.now x c.args.env.now)
     c.as_slice-item-items.result.now ≡ Value c.loop-item.all =
     c.loop-item.invariant ∙ ap (gather_from (λ x. alone (nra bits64 c.args.world.now c.args.body.now x c.args.env.now))
     c.loop-item.all) none in
-    map_made (nra bits64 c.args.world.now c.args.body.now) c.args.env.now c.args.source
+    map_made (nra bits64 c.args.world.now c.args.body.now) c.args.env.now c.args.source.now
     c.as_slice-item-items.result.now c.loop-item.all is made

@@ -1,0 +1,9 @@
+use Rattle.std.proofs.Common.{◌≡◌, ◌++◌, drop, map}
+use Rattle.qc_to_nra.specs.inner.OqlForms.{key_names}
+use Rattle.qc_to_nra.specs.inner.OqlTrees.{key_tree}
+use Rattle.qc_to_nra.proofs.key_names.names_of_keys.Given as goal
+
+abbrev pub invariant-loop-at : goal.invariant-loop-at
+invariant-loop-at l =
+    key_names 0 (map (λ key. key.1) (map key_tree l.keys))
+    ≡ l.made ++ key_names l.at (map (λ key. key.1) (map key_tree (drop l.at l.keys)))
