@@ -1,0 +1,4 @@
+pub mod AlgebraAnswered
+pub mod AlgebraKept
+pub mod AlgebraSizes
+pub mod FlatLoops

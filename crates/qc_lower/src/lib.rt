@@ -1,0 +1,9 @@
+//! The passes between the languages that lie between the algebra and programs, which keep values.
+#![tactic(auto)]
+
+mod algebra;
+mod algebra_trees;
+mod building;
+mod operator_copies;
+
+pub use algebra::NraToNnrc;

@@ -1,0 +1,6 @@
+pub mod Branches
+pub mod HeldOperands
+pub mod PartTypes
+pub mod ConstantTypes
+pub mod OperatorTexts
+pub mod Infers
