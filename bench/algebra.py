@@ -6,14 +6,11 @@ over copies of this checkout's crates; where `rt ci` has proved these, that take
 for nothing; the least of three runs is told. A line that is past what is wanted of it ends in `TOO LONG`, and the status is then 1.
 A machine that does other work makes the times longer.
 """
-import pathlib
-import resource
-import shutil
 import subprocess
 import sys
-import tempfile
 
-TOP = pathlib.Path(__file__).resolve().parent.parent
+from building import made
+
 # The most times as long as the query itself that its tree may take.
 MOST_TIMES = 1.3
 # The most milliseconds that a translation may take.
@@ -158,38 +155,6 @@ SHAPES = [
 ]
 
 
-def closure(names, needs):
-    """The crates of the names and those below them, in the order of the file."""
-    wanted = set()
-    queue = list(names)
-    while queue:
-        name = queue.pop()
-        if name in needs and name not in wanted:
-            wanted.add(name)
-            queue.extend(needs[name])
-    return [name for name in needs if name in wanted]
-
-
-def build(folder):
-    """The program, made in the folder over copies of this checkout's crates. What `rt ci` has proved here is kept."""
-    lines = [line for line in (TOP / "crates.txt").read_text().splitlines() if ":" in line]
-    needs = {line.split(":")[0].split()[0]: line.split(":")[1].split() for line in lines}
-    below = closure(["qc_io", "qc_to_nra"], needs)
-    kept = [line for line in lines if line.split(":")[0].split()[0] in below]
-    kept.append("bench_algebra: " + " ".join(below))
-    (folder / "crates.txt").write_text("\n".join(kept) + "\n")
-    shutil.copy(TOP / "HANDLES", folder)
-    crate = folder / "crates" / "bench_algebra"
-    (crate / "src").mkdir(parents=True)
-    for name in below:
-        ignored = shutil.ignore_patterns("out", "must-fail")
-        shutil.copytree(TOP / "crates" / name, folder / "crates" / name, ignore=ignored)
-    (crate / "src" / "main.rt").write_text(PROGRAM)
-    subprocess.run(["rt", "fmt"], cwd=crate, check=True)
-    subprocess.run(["rt", "ci"], cwd=folder, check=True, stdout=subprocess.DEVNULL)
-    return crate / "out" / "bench_algebra"
-
-
 def write(folder, schema, text, query):
     for name, content in (("schema", schema), ("input", text), ("q", query)):
         (folder / name).write_text(content)
@@ -242,10 +207,7 @@ def translations(program, folder):
 
 
 def main():
-    resource.setrlimit(resource.RLIMIT_STACK, (resource.RLIM_INFINITY, resource.RLIM_INFINITY))
-    with tempfile.TemporaryDirectory() as name:
-        folder = pathlib.Path(name)
-        program = build(folder)
+    with made("bench_algebra", PROGRAM, ["qc_io", "qc_to_nra"]) as (program, folder):
         good = over_rows(program, folder)
         good = translations(program, folder) and good
     sys.exit(0 if good else 1)

@@ -7,15 +7,12 @@ beyond reading the input, for the others too; a mark stands where another progra
 memory of the whole process stands beside the bytes of the input; what reading holds is what a second reading adds. A machine that does other work makes the times longer.
 """
 import json
-import pathlib
-import resource
-import shutil
 import subprocess
 import sys
-import tempfile
 import time
 
-TOP = pathlib.Path(__file__).resolve().parent.parent
+from building import TOP, made
+
 BELOW = ["qc_containers", "qc_data", "qc_keys", "qc_io", "qc_types", "qc_ops", "qc_schema"]
 PROGRAM = """//! Reads the input `input` in the schema `schema` as many times as it has words, and keeps what it reads; where a word is `group`, groups its rows.
 #![tactic(auto)]
@@ -116,23 +113,6 @@ QUERIES = [
      None, "[.a[] as $x | {v: $x.v, ws: [.b[] | select(.k == $x.k) | .w]}]", lambda data: [{"v": x["v"], "ws": [y["w"] for y in data["b"] if y["k"] == x["k"]]} for x in data["a"]]),
 ]
 READ = {"sqlite": "select json_valid(readfile('input'))", "jq": "length"}
-
-
-def build(folder):
-    """The program, made in the folder over copies of this checkout's crates. What `rt ci` has proved here is kept."""
-    lines = [line for line in (TOP / "crates.txt").read_text().splitlines() if line.split(":")[0] in BELOW]
-    lines.append("bench_ground: " + " ".join(BELOW))
-    (folder / "crates.txt").write_text("\n".join(lines) + "\n")
-    shutil.copy(TOP / "HANDLES", folder)
-    for name in BELOW:
-        ignored = shutil.ignore_patterns("out", "must-fail")
-        shutil.copytree(TOP / "crates" / name, folder / "crates" / name, ignore=ignored)
-    crate = folder / "crates" / "bench_ground"
-    (crate / "src").mkdir(parents=True)
-    (crate / "src" / "main.rt").write_text(PROGRAM)
-    subprocess.run(["rt", "fmt"], cwd=crate, check=True)
-    subprocess.run(["rt", "ci"], cwd=folder, check=True, stdout=subprocess.DEVNULL)
-    return crate / "out" / "bench_ground"
 
 
 LAUNCH = """import resource, subprocess, sys, time
@@ -250,10 +230,7 @@ def grouped(data):
 
 
 def main():
-    resource.setrlimit(resource.RLIMIT_STACK, (resource.RLIM_INFINITY, resource.RLIM_INFINITY))
-    with tempfile.TemporaryDirectory() as name:
-        folder = pathlib.Path(name)
-        program = build(folder)
+    with made("bench_ground", PROGRAM, BELOW) as (program, folder):
         reading_rows(program, folder)
         print()
         query_rows(folder)

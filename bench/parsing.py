@@ -12,12 +12,10 @@ for it. The tree's is what each further tree adds that is kept.
 """
 import os
 import pathlib
-import resource
-import shutil
 import subprocess
 import sys
-import tempfile
 
+from building import TOP, made
 from queries import CHECKS
 
 CRATES = ["qc_io", "qc_lex", "qc_oql_text"]
@@ -88,35 +86,6 @@ fn main(rt: HostRuntime) -> io::Result<()> {
 """
 
 
-def below(lines, names):
-    """The named crates and those that they stand on, by the lines of a crates.txt."""
-    needs = {line.split(":")[0]: line.split(":")[1].split() for line in lines}
-    found = set()
-    while not found.issuperset(names):
-        found |= set(names)
-        names = [need for name in names for need in needs[name] if need in needs]
-    return found
-
-
-def build(folder, top):
-    """The program over the crates of a checkout, made in the folder."""
-    lines = [line for line in (top / "crates.txt").read_text().splitlines() if ":" in line]
-    needed = below(lines, CRATES)
-    lines = [line for line in lines if line.split(":")[0] in needed]
-    lines.append("bench_parsing: " + " ".join(sorted(needed)))
-    (folder / "crates.txt").write_text("\n".join(lines) + "\n")
-    shutil.copy(top / "HANDLES", folder)
-    crate = folder / "crates" / "bench_parsing"
-    (crate / "src").mkdir(parents=True)
-    for name in sorted(needed):
-        ignored = shutil.ignore_patterns("out", "must-fail")
-        shutil.copytree(top / "crates" / name, folder / "crates" / name, ignore=ignored)
-    (crate / "src" / "main.rt").write_text(MAIN)
-    subprocess.run(["rt", "fmt"], cwd=crate, check=True)
-    subprocess.run(["rt", "ci"], cwd=folder, check=True, stdout=subprocess.DEVNULL)
-    return crate / "out" / "bench_parsing"
-
-
 def printed(program, folder, words, times):
     """What a run on the file `query` prints, as words. Each of its parses gives a tree."""
     heap = {**os.environ, "MALLOC_TOP_PAD_": "0"}
@@ -146,11 +115,8 @@ def memory(program, folder):
 
 
 def main():
-    top = pathlib.Path(sys.argv[1]) if sys.argv[1:] else pathlib.Path(__file__).parent.parent
-    resource.setrlimit(resource.RLIMIT_STACK, (resource.RLIM_INFINITY, resource.RLIM_INFINITY))
-    with tempfile.TemporaryDirectory() as name:
-        folder = pathlib.Path(name)
-        program = build(folder, top.resolve())
+    top = pathlib.Path(sys.argv[1]) if sys.argv[1:] else TOP
+    with made("bench_parsing", MAIN, CRATES, top) as (program, folder):
         for title, query in [("one token", "1")] + CHECKS:
             (folder / "query").write_text(query)
             first = min(took(program, folder, 1) for _ in range(ROUNDS))
