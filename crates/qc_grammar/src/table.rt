@@ -36,7 +36,8 @@ impl<'a> Table<'a> {
 
     /// The place of the alternative that is chosen on this.
     pub(crate) fn choose(self, rule: u32, next: u64) -> Option<usize>
-        ensures { option_map (spec.body_at (spec.table self.entry)) result ≡ spec.choose (spec.table self.entry) rule next }
+        ensures { option_map (spec.body_at (spec.table self.entry)) result
+            ≡ spec.choose (spec.table self.entry) rule next }
     {
         match self.turn(rule, next) {
             0 => None,

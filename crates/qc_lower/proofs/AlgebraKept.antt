@@ -26,13 +26,13 @@ use Rattle.qc_ops.specs.Sameness.{same, equality}
 use Rattle.qc_ops.proofs.SameTests.{same_is}
 use Rattle.qc_types.specs.Schemas.{WorldOf, global}
 use Rattle.qc_types.proofs.Inductions.{roll-out}
-use Rattle.qc_trees.specs.Branches.{truth, side_at, by_side}
+use Rattle.qc_trees.specs.Branches.{truth}
+use Rattle.qc_ops.specs.Sides.{side_at, by_side}
 use Rattle.qc_nra.specs.declared.tree.Nra.{Nra}
 use Rattle.qc_nra.specs.declared.tree.Nra.TheOpen.{Nra-F}
 use Rattle.qc_nra.specs.declared.tree.Nra.TheViews.{roll-Nra}
 use Rattle.qc_nra.specs.declared.tree.Nra.TheFolds.{fold-roll-Nra, map-Nra}
 use Rattle.qc_nra.specs.Forms as algebra
-use Rattle.qc_nra.specs.Forms.{truth as truth_of, side_at as side_of, by_side as by_side_of}
 use Rattle.qc_nra.specs.Forms.{map_of, kept, select_of, product_of, joined, join_of, members_or, default_of, env_map_of}
 use Rattle.qc_nra.specs.Meaning.{nra, form}
 use Rattle.qc_nra.specs.inner.Induction.{Held, nra_ind}
@@ -114,13 +114,13 @@ kept_choice true a b c d h k = h
 kept_choice false a b c d h k = k
 
 kept_at : (f g h k : Datum → Outcome Datum) → ((x : Datum) → IsKept (f x) (h x)) → ((x : Datum) → IsKept (g x) (k x))
-    → (d : Datum-F Datum) → IsKept (side_of f g d) (side_at h k d)
+    → (d : Datum-F Datum) → IsKept (side_at f g d) (side_at h k d)
 kept_at f g h k p q (Datum-F.Left d) = p d
 kept_at f g h k p q (Datum-F.Right d) = q d
 kept_at f g h k p q _ = tt
 
-kept_truth : (o p : Outcome Datum) → IsKept o p → IsKept (truth_of o) (truth p)
-unfolding truth truth_of
+kept_truth : (o p : Outcome Datum) → IsKept o p → IsKept (truth o) (truth p)
+unfolding truth
 kept_truth o p h = kept_then o p as_bool as_bool h (λ v. kept_same (as_bool v))
 
 -- ---- collections
@@ -226,9 +226,9 @@ one_test x (Halts why) s t e k = tt
 
 one_kept : (x : Datum) (o p s t : Outcome Datum) → IsKept o p → s ≡ Value (datum.Coll (x ∷ []))
     → t ≡ Value (datum.Coll [])
-    → IsKept (bag (and_then (truth_of o) (λ holds. Value (cond holds (x ∷ []) []))))
+    → IsKept (bag (and_then (truth o) (λ holds. Value (cond holds (x ∷ []) []))))
     (and_then (truth p) (λ holds. cond holds s t))
-unfolding truth truth_of
+unfolding truth
 one_kept x (Value d) p s t h e k = rw h (one_test x (as_bool d) s t e k)
 one_kept x (Halts why) p s t h e k = tt
 
@@ -439,7 +439,7 @@ module _ (m : Mode) (w : WorldOf) where
       (default_kept o (run b f) h v)
 
   either_kept : (i n : ℕ) (a b : Nnrc) (f : Values) (p q : Datum → Outcome Datum) (v : Datum) → look i f ≡ Some v
-      → At n a f p → At n b f q → IsKept (by_side_of p q v) (run (to.Either (to.Var i) n a n b) f)
+      → At n a f p → At n b f q → IsKept (by_side p q v) (run (to.Either (to.Var i) n a n b) f)
   unfolding bound_to
   either_kept i n a b f p q v e h k =
       to_kept _ _ (run (to.Either (to.Var i) n a n b) f)
@@ -510,7 +510,7 @@ module _ (m : Mode) (w : WorldOf) where
   layer (Nra-F.If a b c) g f i e n v u h =
       to_kept _ _ (run (to.If (lower a i e n) (lower b i e n) (lower c i e n)) f)
       (run-If (lower a i e n) (lower b i e n) (lower c i e n) f)
-      (kept_then (truth_of (means a v u)) (truth (run (lower a i e n) f)) _ _
+      (kept_then (truth (means a v u)) (truth (run (lower a i e n) f)) _ _
       (kept_truth (means a v u) (run (lower a i e n) f) (g.0 f i e n v u h))
       (λ holds. kept_choice holds (means b v u) (means c v u) (run (lower b i e n) f) (run (lower c i e n) f)
       (g.1 f i e n v u h) (g.2 f i e n v u h)))

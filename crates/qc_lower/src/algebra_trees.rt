@@ -13,7 +13,6 @@ ghost use Rattle.qc_types.specs.Schemas.{WorldOf};
 ghost use Rattle.qc_lower.specs.inner.AlgebraTrees as trees;
 
 use crate::building::{binary, by_side, for_each, if_else, let_in, unary};
-use crate::operator_copies::copy_unary;
 use qc_containers::{Memory, Name};
 use qc_data::{Datum, Fields, Items, copy};
 use qc_nnrc::Nnrc;
@@ -233,7 +232,7 @@ fn global(alloc: Global, name: &Name) -> Result<Nnrc, Memory>
 fn of_one(alloc: Global, op: &Unary, a: Nnrc) -> Result<Nnrc, Memory>
     ensures { IfOk result (λ made. made ≡ to.Unary op.now a) }
 {
-    let op = copy_unary(alloc, op)?;
+    let op = op.copy(alloc)?;
     unary(alloc, op, a)
 }
 

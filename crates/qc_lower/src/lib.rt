@@ -4,6 +4,5 @@
 mod algebra;
 mod algebra_trees;
 mod building;
-mod operator_copies;
 
 pub use algebra::NraToNnrc;

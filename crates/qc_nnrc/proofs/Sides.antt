@@ -3,7 +3,7 @@ use Rattle.std.proofs.Common.{◌≡◌, ℕ, ap, ◌∙◌}
 use Rattle.qc_data.specs.Outcome.{Mode, Outcome, Why, Value, Halts, and_then}
 use Rattle.qc_data.specs.declared.data.Datum.{Datum}
 use Rattle.qc_types.specs.Schemas.{WorldOf}
-use Rattle.qc_trees.specs.Branches.{by_side}
+use Rattle.qc_ops.specs.Sides.{by_side}
 use Rattle.qc_nnrc.specs.declared.tree.Nnrc.{Nnrc}
 use Rattle.qc_nnrc.specs.declared.tree.Nnrc.TheVariants as tree
 use Rattle.qc_nnrc.specs.Meaning.{Values, Meaning, bound_to, form, nnrc}

@@ -15,7 +15,7 @@ use Rattle.qc_typing.proofs.Outcomes.{Typed, typed_all, typed_some, typed_then}
 use Rattle.qc_typing.proofs.UnarySound.{unary_sound}
 use Rattle.qc_typing.proofs.BinarySound.{binary_sound}
 use Rattle.qc_typing.proofs.WorldValues.{global_typed, world_typed}
-use Rattle.qc_trees.specs.Branches.{by_side}
+use Rattle.qc_ops.specs.Sides.{by_side}
 use Rattle.qc_trees.proofs.ConstantsSound.{constant_typed}
 use Rattle.qc_trees.proofs.PartsSound.{Body, chosen_typed, members_typed, sides_typed}
 use Rattle.qc_nnrc.specs.declared.tree.Nnrc.{Nnrc}

@@ -13,8 +13,10 @@ use Rattle.qc_ops.specs.Operands.{bag, found}
 use Rattle.qc_ops.specs.Operators.{unary, binary}
 use Rattle.qc_ops.proofs.OperatorLaws.{agrees_unary, agrees_binary}
 use Rattle.qc_types.specs.Schemas.{WorldOf, global}
-use Rattle.qc_trees.specs.Branches.{truth, side_at, by_side}
-use Rattle.qc_trees.proofs.FormLaws.{agrees_each, agrees_truth, agrees_choice, agrees_side}
+use Rattle.qc_trees.specs.Branches.{truth}
+use Rattle.qc_ops.specs.Sides.{side_at, by_side}
+use Rattle.qc_trees.proofs.FormLaws.{agrees_each, agrees_truth, agrees_choice}
+use Rattle.qc_ops.proofs.OperatorLaws.{agrees_side}
 use Rattle.qc_nnrc.specs.declared.tree.Nnrc.{Nnrc}
 use Rattle.qc_nnrc.specs.declared.tree.Nnrc.TheOpen.{Nnrc-F}
 use Rattle.qc_nnrc.specs.declared.tree.Nnrc.TheViews.{roll-Nnrc}

@@ -7,7 +7,8 @@ use Rattle.qc_data.specs.declared.data.Datum.{Datum}
 use Rattle.qc_ops.specs.Operands.{bag, found}
 use Rattle.qc_ops.specs.Operators.{unary, binary}
 use Rattle.qc_types.specs.Schemas.{WorldOf, global}
-use Rattle.qc_trees.specs.Branches.{truth, by_side}
+use Rattle.qc_trees.specs.Branches.{truth}
+use Rattle.qc_ops.specs.Sides.{by_side}
 use Rattle.qc_nnrc.specs.declared.tree.Nnrc.{Nnrc}
 use Rattle.qc_nnrc.specs.declared.tree.Nnrc.TheOpen.{Nnrc-F}
 use Rattle.qc_nnrc.specs.declared.tree.Nnrc.TheFolds.{fold-Nnrc}

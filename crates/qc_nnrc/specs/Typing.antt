@@ -10,7 +10,8 @@ use Rattle.qc_lang.specs.Keeping.{IsOf}
 use Rattle.qc_typing.specs.Tables.{unary_type, binary_type}
 use Rattle.qc_typing.specs.Typed.{HasType, IsTyped}
 use Rattle.qc_trees.specs.ConstantTypes.{constant_type}
-use Rattle.qc_trees.specs.PartTypes.{bound_by, sides_of, join_both, chosen_type}
+use Rattle.qc_trees.specs.PartTypes.{join_both, chosen_type}
+use Rattle.qc_typing.specs.Kinds.{bound_by, sides_of}
 use Rattle.qc_nnrc.specs.declared.tree.Nnrc.{Nnrc}
 use Rattle.qc_nnrc.specs.declared.tree.Nnrc.TheOpen.{Nnrc-F}
 use Rattle.qc_nnrc.specs.declared.tree.Nnrc.TheFolds.{fold-Nnrc}

@@ -1,6 +1,5 @@
 // The outcome of trees in 64 bits. A form with two parts evaluates one and lends its value to what takes the other.
-ghost use Rattle.std.specs.Prelude.{◌≡◌, IfSome};
-ghost use Rattle.qc_data.specs.Outcome.{and_then, bits64, Gives, Value};
+ghost use Rattle.qc_data.specs.Outcome.{and_then, bits64, Gives, GivesRef};
 ghost use Rattle.qc_nnrc.specs.Meaning as spec;
 ghost use Rattle.qc_nnrc.specs.Meaning.{nnrc};
 ghost use Rattle.qc_nnrc.specs.inner.Chains.{pairs_of};
@@ -8,14 +7,14 @@ ghost use Rattle.qc_nnrc.specs.Variables.{look};
 ghost use Rattle.qc_ops.specs.Operands.{found};
 ghost use Rattle.qc_ops.specs.Operators.{binary, unary};
 ghost use Rattle.qc_trees.specs.Branches as forms;
-ghost use Rattle.qc_trees.specs.HeldOperands.{GivesHeld};
+ghost use Rattle.qc_ops.specs.HeldOperands.{GivesHeld};
 
 use crate::bindings::Frame;
 use crate::chain::{Chain, binding};
 use crate::tree::Nnrc;
 use qc_data::{Datum, Halt, Items, copy};
-use qc_ops::{Binary, Unary, apply1, apply2};
-use qc_trees::{Held, bool_of, field_at, global_of, items_of};
+use qc_ops::{Binary, Held, Unary, apply1, apply2_taking};
+use qc_trees::{bool_of, field_of, global_of, items_of};
 use qc_types::World;
 use std::alloc::Global;
 
@@ -34,7 +33,7 @@ fn outcome(alloc: Global, e: &Nnrc, world: &World, chain: &Chain<Datum>) -> Resu
     ensures { Gives (nnrc bits64 world.now e.now (pairs_of chain.now)) result }
 {
     match e {
-        Nnrc::Var(x) => value_of(alloc, chain, *x),
+        Nnrc::Var(x) => Ok(copy(alloc, bound_at(chain, *x)?)?),
         Nnrc::Const(d) => Ok(copy(alloc, d)?),
         Nnrc::Global(name) => Ok(copy(alloc, global_of(world, name)?)?),
         Nnrc::Unary(op, a) => of_one(alloc, a.get(), world, chain, op),
@@ -68,33 +67,17 @@ fn outcome(alloc: Global, e: &Nnrc, world: &World, chain: &Chain<Datum>) -> Resu
     }
 }
 
-// A copy of the value of a variable.
-fn value_of(alloc: Global, chain: &Chain<Datum>, x: u128) -> Result<Datum, Halt>
-    ensures { Gives (found (look x (pairs_of chain.now))) result }
+// The value of a variable.
+fn bound_at<'a>(chain: &'a Chain<'a, Datum>, x: u128) -> Result<&'a Datum, Halt>
+    ensures { GivesRef (found (look x (pairs_of chain.now))) result }
 {
     match binding(chain, x) {
-        Some(value) => Ok(copy(alloc, value)?),
+        Some(value) => Ok(value),
         None => Err(Halt::Stuck),
     }
 }
 
-// Where the value of a tree stands, if it is known before anything is made.
-fn lend<'a>(e: &'a Nnrc, world: &'a World, chain: &'a Chain<'a, Datum>) -> Option<&'a Datum>
-    ensures { IfSome result (λ value. nnrc bits64 world.now e.now (pairs_of chain.now) ≡ Value value.now) }
-{
-    match e {
-        Nnrc::Var(x) => binding(chain, *x),
-        Nnrc::Const(d) => Some(d),
-        Nnrc::Global(name) => world.get(name.as_str()),
-        Nnrc::Unary(Unary::Dot(name), a) => match lend(a.get(), world, chain) {
-            Some(record) => field_at(name, record),
-            None => None,
-        },
-        _ => None,
-    }
-}
-
-// The outcome of an operand, which is not copied where it stands somewhere.
+// The outcome of an operand, which is lent where it stands somewhere.
 #[cycle(eval)]
 fn held<'a>(
     alloc: Global,
@@ -104,9 +87,15 @@ fn held<'a>(
 ) -> Result<Held<'a>, Halt>
     ensures { GivesHeld (nnrc bits64 world.now e.now (pairs_of chain.now)) result }
 {
-    match lend(e, world, chain) {
-        Some(value) => Ok(Held::Lent(value)),
-        None => Ok(Held::Made(outcome(alloc, &*e, &*world, &*chain)?)),
+    match e {
+        Nnrc::Var(x) => Ok(Held::Lent(bound_at(chain, *x)?)),
+        Nnrc::Const(d) => Ok(Held::Lent(d)),
+        Nnrc::Global(name) => Ok(Held::Lent(global_of(world, name)?)),
+        Nnrc::Unary(Unary::Dot(name), a) => {
+            let owner = held(alloc, a.get(), world, chain)?;
+            field_of(alloc, name, owner)
+        }
+        _ => Ok(Held::Made(outcome(alloc, &*e, &*world, &*chain)?)),
     }
 }
 
@@ -140,7 +129,7 @@ fn of_right(
         result }
 {
     let v = held(alloc, &*b, &*world, &*chain)?;
-    apply2(alloc, op, u, v.get())
+    apply2_taking(alloc, op, u, v)
 }
 
 // The truth value of a condition.

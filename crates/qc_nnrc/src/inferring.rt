@@ -14,9 +14,9 @@ use crate::chain::{Chain, binding};
 use crate::tree::Nnrc;
 use qc_containers::Memory;
 use qc_ops::{Binary, Unary};
-use qc_trees::{NoType, bound_by, branches, coll_of, constant_type, global_type, known, sides_of};
+use qc_trees::{NoType, branches, constant_type, global_type, known};
 use qc_types::{Schema, Ty, copy_ty, join};
-use qc_typing::{type1, type2};
+use qc_typing::{bound_by, coll_of, sides_of, type1, type2};
 use std::alloc::Global;
 
 /// The type of the tree in a schema and a scope, and `None` exactly where a part has none or no rule gives one. In each

@@ -1,12 +1,10 @@
--- Members put behind others, and records behind one without fields.
-use Rattle.std.proofs.Common.{◌≡◌, ◌∙◌, ◌++◌, ℕ, List, [], ◌∷◌, ap, append_assoc, append-nil, arith, length, refl, sym}
+-- Members put behind others.
+use Rattle.std.proofs.Common.{◌≡◌, ◌∙◌, ◌++◌, List, [], ◌∷◌, ap, append_assoc, append-nil, refl, sym}
 use Rattle.qc_data.specs.Outcome.{Outcome, Value, Halts, Why, alone, and_then, gather}
 use Rattle.qc_data.specs.declared.data.Datum.{Datum}
-use Rattle.qc_data.specs.declared.data.Datum.TheVariants.{Rec}
 use Rattle.qc_data.proofs.Outcomes.{gather_from, gather_is}
 use Rattle.qc_nra.specs.Forms.{beside}
 use Rattle.qc_nra.specs.inner.Added.{added, all_added}
-use Rattle.qc_ops.specs.Operands.{as_rec}
 use Rattle.qc_ops.specs.Records.{concatenation}
 
 pub added_halt : (done : List Datum) (w : Why) → added done (Halts w) ≡ Halts w
@@ -51,8 +49,3 @@ all_is f done (x ∷ xs) = all_step f done (f x) xs (λ d. all_is f d xs)
 -- a traversal by what each member adds
 pub gather_added : (f : Datum → Outcome (List Datum)) (xs : List Datum) → gather f xs ≡ all_added f [] xs
 gather_added f xs = gather_is f xs ∙ all_is f [] xs
-
-pub behind_none : (x y : Datum) (fs : List (List ℕ × Datum)) → as_rec x ≡ Value fs → length fs ≡ 0
-    → concatenation x y ≡ and_then (as_rec y) (λ gs. Value (Rec gs))
-behind_none x y [] e n = rw e refl
-behind_none x y (f ∷ fs) e n = absurd (omega arith)

@@ -33,11 +33,14 @@ use Rattle.qc_typing.proofs.Values.{make_coll, nothing_bottom, opened}
 use Rattle.qc_typing.proofs.RecordValues.{rec_holds}
 use Rattle.qc_typing.proofs.BinarySound.{binary_sound}
 use Rattle.qc_nra.specs.FormTypes.{Typing, map_type, select_type, records, pairs_type, product_type, join_type}
-use Rattle.qc_nra.specs.FormTypes.{default_type, env_map_type, chosen_type}
-use Rattle.qc_nra.specs.Forms.{Meaning, truth, map_of, kept, select_of, beside, product_of, joined, join_of, members_or}
-use Rattle.qc_nra.specs.Forms.{default_of, env_map_of, side_at, by_side}
-use Rattle.qc_nra.specs.PartTypes.{members_bound, bound_by, sides_bound, sides_of, join_both}
-use Rattle.qc_nra.proofs.ConstantsSound.{typed_if}
+use Rattle.qc_nra.specs.FormTypes.{default_type, env_map_type}
+use Rattle.qc_nra.specs.Forms.{Meaning, map_of, kept, select_of, beside, product_of, joined, join_of, members_or}
+use Rattle.qc_nra.specs.Forms.{default_of, env_map_of}
+use Rattle.qc_trees.specs.Branches.{truth}
+use Rattle.qc_typing.specs.Kinds.{members_bound, bound_by}
+use Rattle.qc_trees.proofs.ConstantsSound.{typed_if}
+use Rattle.qc_trees.proofs.PartsSound as parts
+use Rattle.qc_trees.proofs.PartsSound.{members_typed}
 
 -- two facts of one value
 holds_both : {A : Type 0} (m : Mode) (P Q : A → Type 0) (o : Outcome A) → Holds m P o → Holds m Q o
@@ -55,19 +58,25 @@ module _ (c : Defs) (g : IsTrue (good_classes c)) (m : Mode) where
   abbrev pub Sound : Typing → Meaning → Type 0
   Sound f a = (i e : Ty) (v w : Datum) → HasType c v i → HasType c w e → Typed m (HasType c) (f i e) (a v w)
 
-  abbrev Bag : List Datum → Ty → Type 0
-  Bag xs t = AllOf (λ x. HasType c x t) xs
-
   -- ---- parts of values
 
-  bound_layer : (x : Datum-F Datum) (y : Ty-F Ty) → At c x y → Typed m Bag (members_bound y) (coll_at x)
-  bound_layer x Ty-F.Bottom h = absurd (nothing_bottom c x Ty-F.Bottom refl h)
-  bound_layer x (Ty-F.Coll t) h = coll_layer c m t x h
-  bound_layer x y h = tt
+  abbrev Bag : List Datum → Ty → Type 0
+  Bag = parts.Bag c g m
 
-  -- the members of a collection
-  pub bound_typed : (t : Ty) (v : Datum) → HasType c v t → Typed m Bag (bound_by t) (as_coll v)
-  bound_typed t v h = bound_layer (out-Datum v) (out-Ty t) (opened c v t h)
+  bound_typed : (t : Ty) (v : Datum) → HasType c v t → Typed m Bag (bound_by t) (as_coll v)
+  bound_typed = parts.bound_typed c g m
+
+  join_left : (t u : Ty) (j : Option Ty) (o : Outcome Datum) → AboveBoth c t u j → Holds m (λ v. HasType c v t) o
+      → Typed m (HasType c) j o
+  join_left = parts.join_left c g m
+
+  join_right : (t u : Ty) (j : Option Ty) (o : Outcome Datum) → AboveBoth c t u j → Holds m (λ v. HasType c v u) o
+      → Typed m (HasType c) j o
+  join_right = parts.join_right c g m
+
+  truth_holds : (o : Outcome Datum) (t : Ty) → IsTrue (sub c t ty.Bool) → Holds m (λ v. HasType c v t) o
+      → Holds m Any (truth o)
+  truth_holds = parts.truth_holds c g m
 
   self_layer : (t : Ty) (x : Datum-F Datum) (y : Ty-F Ty) → out-Ty t ≡ y → At c x y
       → IsTrue (is_some (members_bound y)) → Holds m (λ xs. HasType c (datum.Coll xs) t) (coll_at x)
@@ -82,61 +91,19 @@ module _ (c : Defs) (g : IsTrue (good_classes c)) (m : Mode) where
       → Holds m (λ xs. HasType c (datum.Coll xs) t) (as_coll v)
   self_holds t v k h = self_layer t (out-Datum v) (out-Ty t) refl (opened c v t h) k
 
-  -- ---- values of one of two types are of their join
-
-  join_left : (t u : Ty) (j : Option Ty) (o : Outcome Datum) → AboveBoth c t u j → Holds m (λ v. HasType c v t) o
-      → Typed m (HasType c) j o
-  join_left t u None o up h = tt
-  join_left t u (Some j) o up h =
-      holds_weaker m (λ v. HasType c v t) (λ v. HasType c v j) o (λ v k. below_type c g v t j k up.0) h
-
-  join_right : (t u : Ty) (j : Option Ty) (o : Outcome Datum) → AboveBoth c t u j → Holds m (λ v. HasType c v u) o
-      → Typed m (HasType c) j o
-  join_right t u None o up h = tt
-  join_right t u (Some j) o up h =
-      holds_weaker m (λ v. HasType c v u) (λ v. HasType c v j) o (λ v k. below_type c g v u j k up.1) h
-
-  both_left : (r q : Option Ty) (o : Outcome Datum) → Typed m (HasType c) r o → Typed m (HasType c) (join_both c r q) o
-  both_left None q o h = tt
-  both_left (Some t) None o h = tt
-  both_left (Some t) (Some u) o h = join_left t u (join c t u) o (join_above c t u) h
-
-  both_right : (r q : Option Ty) (o : Outcome Datum) → Typed m (HasType c) q o → Typed m (HasType c) (join_both c r q) o
-  both_right None q o h = tt
-  both_right (Some t) None o h = tt
-  both_right (Some t) (Some u) o h = join_right t u (join c t u) o (join_above c t u) h
-
   -- ---- map and mapenv
-
-  each_typed : (r : Option Ty) (x : Ty) (f : Datum → Outcome Datum) (xs : List Datum) → Bag xs x
-      → ((y : Datum) → HasType c y x → Typed m (HasType c) r (f y))
-      → Typed m (HasType c) (option_map (λ u. ty.Coll u) r) (bag (each f xs))
-  each_typed r x f xs all h =
-      typed_map m Bag (HasType c) r (each f xs) (λ u. ty.Coll u) (λ ys. Value (datum.Coll ys))
-      (typed_each m (λ y. HasType c y x) (HasType c) r f xs all h) (λ t ys k. make_coll c t ys k)
 
   pub map_typed : (f : Typing) (a : Meaning) → Sound f a → (e : Ty) (w : Datum) → HasType c w e → (t : Ty) (v : Datum)
       → HasType c v t → Typed m (HasType c) (map_type f e t) (map_of a w v)
   unfolding map_of
-  map_typed f a s e w k t v h =
-      typed_then m Bag (HasType c) (bound_by t) (as_coll v) _ _ (bound_typed t v h)
-      (λ x xs all. each_typed (f x e) x (λ y. a y w) xs all (λ y i. s x e y w i k))
+  map_typed f a s e w k = members_typed c g m (λ x. f x e) (λ y. a y w) (λ x y i. s x e y w i k)
 
   pub env_map_typed : (f : Typing) (a : Meaning) → Sound f a → (i e : Ty) (v w : Datum) → HasType c v i → HasType c w e
       → Typed m (HasType c) (env_map_type f i e) (env_map_of a v w)
   unfolding env_map_of
-  env_map_typed f a s i e v w h k =
-      typed_then m Bag (HasType c) (bound_by e) (as_coll w) _ _ (bound_typed e w k)
-      (λ x xs all. each_typed (f i x) x (λ y. a v y) xs all (λ y j. s i x v y h j))
+  env_map_typed f a s i e v w h k = members_typed c g m (λ x. f i x) (λ y. a v y) (λ x y j. s i x v y h j) e w k
 
   -- ---- conditions
-
-  truth_holds : (o : Outcome Datum) (t : Ty) → IsTrue (sub c t ty.Bool) → Holds m (λ v. HasType c v t) o
-      → Holds m Any (truth o)
-  unfolding truth
-  truth_holds o t below h =
-      holds_then m (λ v. HasType c v t) Any o as_bool h
-      (λ v k. bool_holds c m v (below_type c g v t ty.Bool k below))
 
   kept_cond : (b : Bool) (y : Datum) (x : Ty) → HasType c y x → Bag (cond b (y ∷ []) []) x
   kept_cond true y x h = (h, tt)
@@ -266,16 +233,16 @@ module _ (c : Defs) (g : IsTrue (good_classes c)) (m : Mode) where
 
   -- ---- default
 
-  members_typed : (t u : Ty) (o : Outcome Datum) (xs : List Datum) → IsTrue (is_some (bound_by u))
+  members_or_typed : (t u : Ty) (o : Outcome Datum) (xs : List Datum) → IsTrue (is_some (bound_by u))
       → HasType c (datum.Coll xs) t → Holds m (λ v. HasType c v u) o
       → Typed m (HasType c) (join c t u) (members_or o xs)
   unfolding members_or
-  members_typed t u o [] k h i =
+  members_or_typed t u o [] k h i =
       join_right t u (join c t u) (and_then o (λ w. bag (as_coll w))) (join_above c t u)
       (holds_then m (λ v. HasType c v u) (λ v. HasType c v u) o (λ w. bag (as_coll w)) i
       (λ w j. holds_then m (λ ys. HasType c (datum.Coll ys) u) (λ v. HasType c v u) (as_coll w)
       (λ ys. Value (datum.Coll ys)) (self_holds u w k j) (λ ys l. l)))
-  members_typed t u o (x ∷ xs) k h i = join_left t u (join c t u) (Value (datum.Coll (x ∷ xs))) (join_above c t u) h
+  members_or_typed t u o (x ∷ xs) k h i = join_left t u (join c t u) (Value (datum.Coll (x ∷ xs))) (join_above c t u) h
 
   pub default_typed : (t : Ty) (r : Option Ty) (v : Datum) (o : Outcome Datum) → HasType c v t
       → Typed m (HasType c) r o → Typed m (HasType c) (option_and_then (default_type c t) r) (default_of o v)
@@ -285,40 +252,4 @@ module _ (c : Defs) (g : IsTrue (good_classes c)) (m : Mode) where
       typed_if m (HasType c) (is_some (bound_by t) && is_some (bound_by u)) (join c t u) _ (λ below.
       let k = and_parts (is_some (bound_by t)) (is_some (bound_by u)) below in
       typed_after m (λ xs. HasType c (datum.Coll xs) t) (HasType c) (join c t u) (as_coll v) (members_or o)
-      (self_holds t v k.0 h) (λ xs j. members_typed t u o xs k.1 j i))
-
-  -- ---- if and either
-
-  branch_typed : (b : Bool) (x y : Ty) (o p : Outcome Datum) → Holds m (λ v. HasType c v x) o
-      → Holds m (λ v. HasType c v y) p → Typed m (HasType c) (join c x y) (cond b o p)
-  branch_typed true x y o p h k = join_left x y (join c x y) o (join_above c x y) h
-  branch_typed false x y o p h k = join_right x y (join c x y) p (join_above c x y) k
-
-  pub chosen_typed : (test r q : Option Ty) (t o p : Outcome Datum) → Typed m (HasType c) test t
-      → Typed m (HasType c) r o → Typed m (HasType c) q p
-      → Typed m (HasType c) (option_and_then (λ u. option_and_then (λ x. option_and_then (chosen_type c u x) q) r) test)
-      (and_then (truth t) (λ holds. cond holds o p))
-  chosen_typed None r q t o p h i j = tt
-  chosen_typed (Some u) None q t o p h i j = tt
-  chosen_typed (Some u) (Some x) None t o p h i j = tt
-  chosen_typed (Some u) (Some x) (Some y) t o p h i j =
-      typed_if m (HasType c) (sub c u ty.Bool) (join c x y) _ (λ below.
-      typed_after m Any (HasType c) (join c x y) (truth t) (λ holds. cond holds o p) (truth_holds t u below h)
-      (λ b k. branch_typed b x y o p i j))
-
-  module _ (f h : Typing) (a b : Meaning) (s : Sound f a) (z : Sound h b) (e : Ty) (w : Datum) (k : HasType c w e) where
-    side_layer : (x : Datum-F Datum) (y : Ty-F Ty) → At c x y
-        → Typed m (HasType c) (option_and_then (λ u. join_both c (f u.0 e) (h u.1 e)) (sides_bound y))
-        (side_at (λ v. a v w) (λ v. b v w) x)
-    side_layer x Ty-F.Bottom j = absurd (nothing_bottom c x Ty-F.Bottom refl j)
-    side_layer (Datum-F.Left d) (Ty-F.Either t u) j =
-        both_left (f t e) (h u e) (a d w) (s t e d w (record { fitting = j.fitting; records = j.records }) k)
-    side_layer (Datum-F.Right d) (Ty-F.Either t u) j =
-        both_right (f t e) (h u e) (b d w) (z u e d w (record { fitting = j.fitting; records = j.records }) k)
-    side_layer x (Ty-F.Either t u) j = let i = j.fitting in absurd (cc)
-    side_layer x y j = tt
-
-    pub either_typed : (t : Ty) (v : Datum) → HasType c v t
-        → Typed m (HasType c) (option_and_then (λ u. join_both c (f u.0 e) (h u.1 e)) (sides_of t))
-        (by_side (λ x. a x w) (λ x. b x w) v)
-    either_typed t v i = side_layer (out-Datum v) (out-Ty t) (opened c v t i)
+      (self_holds t v k.0 h) (λ xs j. members_or_typed t u o xs k.1 j i))

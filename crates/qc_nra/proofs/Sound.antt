@@ -25,9 +25,10 @@ use Rattle.qc_nra.specs.Laws.{agrees_nra}
 use Rattle.qc_nra.specs.Meaning.{form, nra}
 use Rattle.qc_nra.specs.Typing.{form_type, nra_type, IsSound}
 use Rattle.qc_nra.specs.inner.Induction.{Held, nra_ind}
-use Rattle.qc_nra.proofs.ConstantsSound.{constant_typed}
+use Rattle.qc_trees.proofs.ConstantsSound.{constant_typed}
+use Rattle.qc_trees.proofs.PartsSound.{chosen_typed, sides_typed}
 use Rattle.qc_nra.proofs.FormsSound.{Sound, map_typed, env_map_typed, select_typed, product_typed, join_typed}
-use Rattle.qc_nra.proofs.FormsSound.{default_typed, chosen_typed, either_typed}
+use Rattle.qc_nra.proofs.FormsSound.{default_typed}
 
 -- the world of a schema and a datum
 abbrev world_of : SchemaOf → Datum → WorldOf
@@ -94,7 +95,8 @@ module _ (schema : SchemaOf) (good : IsTrue (good_classes schema.classes)) (d : 
       (λ t x k. h.0 i t v x p k)
   layer (Nra-F.MapEnv a) h i e v u p q = env_map_typed c good m (typing a) (meaning a) h i e v u p q
   layer (Nra-F.Either a b) h i e v u p q =
-      either_typed c good m (typing a) (typing b) (meaning a) (meaning b) h.0 h.1 e u q i v p
+      sides_typed c good m (λ t. typing a t e) (λ t. typing b t e) (λ d. meaning a d u) (λ d. meaning b d u)
+      (λ t d k. h.0 t e d u k q) (λ t d k. h.1 t e d u k q) i v p
   layer (Nra-F.If a b c') h i e v u p q =
       chosen_typed c good m (typing a i e) (typing b i e) (typing c' i e) (meaning a v u) (meaning b v u)
       (meaning c' v u) (h.0 i e v u p q) (h.1 i e v u p q) (h.2 i e v u p q)

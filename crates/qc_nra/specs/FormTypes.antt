@@ -9,7 +9,7 @@ use Rattle.qc_types.specs.Types.{sub}
 use Rattle.qc_ops.specs.declared.op.Binary.TheVariants.{Cat}
 use Rattle.qc_typing.specs.Kinds.{when}
 use Rattle.qc_typing.specs.Tables.{binary_type, both_below}
-use Rattle.qc_nra.specs.PartTypes.{bound_by}
+use Rattle.qc_typing.specs.Kinds.{bound_by}
 
 -- the type of a tree, if it has one, by the types of its input and its environment
 abbrev pub Typing : Type 0
@@ -49,7 +49,3 @@ default_type c t u = cond (is_some (bound_by t) && is_some (bound_by u)) (join c
 -- mapenv: collections of what the body gives with a member of the environment
 abbrev pub env_map_type : Typing → Ty → Ty → Option Ty
 env_map_type a i e = option_and_then (λ x. option_map (λ u. ty.Coll u) (a i x)) (bound_by e)
-
--- if: the join of the branches, where the condition is a truth value
-abbrev pub chosen_type : Defs → Ty → Ty → Ty → Option Ty
-chosen_type c t x y = cond (sub c t ty.Bool) (join c x y) None

@@ -1,22 +1,17 @@
 -- What the forms of the algebra do with the values and the meanings of their parts. The first outcome that is no value
 -- decides.
-use Rattle.std.specs.Prelude.{Bool, cond, List, [], ◌∷◌}
+use Rattle.std.specs.Prelude.{cond, List, [], ◌∷◌}
 use Rattle.qc_data.specs.Kinds.{as_coll}
-use Rattle.qc_data.specs.Outcome.{Outcome, Value, Halts, Stuck, and_then, gather, each}
+use Rattle.qc_data.specs.Outcome.{Outcome, Value, and_then, gather, each}
 use Rattle.qc_data.specs.declared.data.Datum.{Datum}
-use Rattle.qc_data.specs.declared.data.Datum.TheOpen.{Datum-F}
-use Rattle.qc_data.specs.declared.data.Datum.TheViews.{out-Datum}
 use Rattle.qc_data.specs.declared.data.Datum.TheVariants.{Coll}
-use Rattle.qc_ops.specs.Operands.{as_bool, as_rec, bag}
+use Rattle.qc_ops.specs.Operands.{as_rec, bag}
 use Rattle.qc_ops.specs.Records.{concatenation}
+use Rattle.qc_trees.specs.Branches.{truth}
 
 -- the outcome of a tree, by its input and its environment
 abbrev pub Meaning : Type 0
 Meaning = Datum → Datum → Outcome Datum
-
--- the truth value that a condition has
-unfoldable pub truth : Outcome Datum → Outcome Bool
-truth o = and_then o as_bool
 
 -- map: a body with each member as its input
 unfoldable pub map_of : Meaning → Datum → Datum → Outcome Datum
@@ -58,13 +53,3 @@ default_of o v = and_then (as_coll v) (members_or o)
 -- mapenv: a body with each member of the environment as its environment
 unfoldable pub env_map_of : Meaning → Datum → Datum → Outcome Datum
 env_map_of a i e = and_then (as_coll e) (λ xs. bag (each (λ x. a i x) xs))
-
--- by the outermost layer of a datum, what its left and its right content give
-abbrev pub side_at : (Datum → Outcome Datum) → (Datum → Outcome Datum) → Datum-F Datum → Outcome Datum
-side_at f g (Datum-F.Left d) = f d
-side_at f g (Datum-F.Right d) = g d
-side_at f g _ = Halts Stuck
-
--- either: what the content of a left and of a right value gives
-abbrev pub by_side : (Datum → Outcome Datum) → (Datum → Outcome Datum) → Datum → Outcome Datum
-by_side f g d = side_at f g (out-Datum d)

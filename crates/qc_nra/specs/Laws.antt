@@ -1,21 +1,22 @@
 -- The laws of trees. Each has a node. A value within bounds is the value at any size, and a value at any size is
 -- within bounds the same or Range.
-use Rattle.std.proofs.Common.{◌≡◌, ◌≤◌, ℕ, ℤ, arith, Bool, true, false, cond, List, [], ◌∷◌, refl}
+use Rattle.std.proofs.Common.{◌≤◌, ℕ, ℤ, arith, List, [], ◌∷◌, refl, ◌≡◌}
 use Rattle.qc_data.specs.Kinds.{as_coll}
-use Rattle.qc_data.specs.Outcome.{any_size, within, Outcome, Halts, Stuck, and_then, gather, each, alone, Agrees}
+use Rattle.qc_data.specs.Outcome.{any_size, within, Outcome, and_then, gather, Agrees}
 use Rattle.qc_data.specs.declared.data.Datum.{Datum}
-use Rattle.qc_data.specs.declared.data.Datum.TheOpen.{Datum-F}
-use Rattle.qc_data.specs.declared.data.Datum.TheViews.{out-Datum}
 use Rattle.qc_data.proofs.Outcomes.{agrees_same, agrees_then, agrees_gather, agrees_after}
-use Rattle.qc_ops.specs.Operands.{as_bool, as_rec, bag, found}
+use Rattle.qc_ops.specs.Operands.{as_rec, bag, found}
 use Rattle.qc_ops.proofs.OperatorLaws.{agrees_unary, agrees_binary}
 use Rattle.qc_types.specs.Schemas.{WorldOf, global}
+use Rattle.qc_trees.specs.Branches.{truth}
+use Rattle.qc_trees.proofs.FormLaws.{agrees_bag, agrees_each, agrees_truth, agrees_choice}
+use Rattle.qc_ops.proofs.OperatorLaws.{agrees_side}
 use Rattle.qc_nra.specs.declared.tree.Nra.{Nra}
 use Rattle.qc_nra.specs.declared.tree.Nra.TheOpen.{Nra-F}
 use Rattle.qc_nra.specs.declared.tree.Nra.TheViews.{roll-Nra}
 use Rattle.qc_nra.specs.declared.tree.Nra.TheFolds.{fold-roll-Nra, fold_out-Nra, map-Nra}
-use Rattle.qc_nra.specs.Forms.{Meaning, truth, map_of, kept, select_of, beside, product_of, joined, join_of, members_or}
-use Rattle.qc_nra.specs.Forms.{default_of, env_map_of, side_at, by_side}
+use Rattle.qc_nra.specs.Forms.{Meaning, map_of, kept, select_of, beside, product_of, joined, join_of, members_or}
+use Rattle.qc_nra.specs.Forms.{default_of, env_map_of}
 use Rattle.qc_nra.specs.Meaning.{form, nra}
 use Rattle.qc_nra.specs.Sizes.{node, size}
 use Rattle.qc_nra.specs.inner.Induction.{Held, nra_ind}
@@ -51,23 +52,6 @@ AgreesM f g = (i e : Datum) → Agrees (f i e) (g i e)
 
 -- ---- forms on values
 
-agrees_bag : (xs ys : Outcome (List Datum)) → Agrees xs ys → Agrees (bag xs) (bag ys)
-agrees_bag xs ys h = agrees_then xs ys _ _ h (λ zs. refl)
-
-agrees_each : (f g : Datum → Outcome Datum) (xs : List Datum) → ((x : Datum) → Agrees (f x) (g x))
-    → Agrees (bag (each f xs)) (bag (each g xs))
-agrees_each f g xs h =
-    agrees_bag (each f xs) (each g xs)
-    (agrees_gather (λ x. alone (f x)) (λ x. alone (g x)) xs (λ x. agrees_then (f x) (g x) _ _ (h x) (λ v. refl)))
-
-agrees_truth : (a b : Outcome Datum) → Agrees a b → Agrees (truth a) (truth b)
-unfolding truth
-agrees_truth a b h = agrees_then a b as_bool as_bool h (λ v. agrees_same (as_bool v))
-
-agrees_choice : (t : Bool) (a b c d : Outcome Datum) → Agrees a c → Agrees b d → Agrees (cond t a b) (cond t c d)
-agrees_choice true a b c d h k = h
-agrees_choice false a b c d h k = k
-
 agrees_members : (o p : Outcome Datum) (xs : List Datum) → Agrees o p → Agrees (members_or o xs) (members_or p xs)
 unfolding members_or
 agrees_members o p [] h = agrees_then o p _ _ h (λ w. agrees_same (bag (as_coll w)))
@@ -76,16 +60,6 @@ agrees_members o p (x ∷ xs) h = refl
 agrees_default : (o p : Outcome Datum) (v : Datum) → Agrees o p → Agrees (default_of o v) (default_of p v)
 unfolding default_of
 agrees_default o p v h = agrees_after (as_coll v) (members_or o) (members_or p) (λ xs. agrees_members o p xs h)
-
-agrees_at : (f g h k : Datum → Outcome Datum) → ((x : Datum) → Agrees (f x) (h x)) → ((x : Datum) → Agrees (g x) (k x))
-    → (d : Datum-F Datum) → Agrees (side_at f g d) (side_at h k d)
-agrees_at f g h k p q (Datum-F.Left d) = p d
-agrees_at f g h k p q (Datum-F.Right d) = q d
-agrees_at f g h k p q _ = agrees_same {A = Datum} (Halts Stuck)
-
-agrees_side : (f g h k : Datum → Outcome Datum) → ((x : Datum) → Agrees (f x) (h x))
-    → ((x : Datum) → Agrees (g x) (k x)) → (d : Datum) → Agrees (by_side f g d) (by_side h k d)
-agrees_side f g h k p q d = agrees_at f g h k p q (out-Datum d)
 
 -- ---- forms with a body
 

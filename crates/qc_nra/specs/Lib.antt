@@ -4,7 +4,5 @@ pub mod Meaning
 pub mod Sizes
 pub mod Laws
 pub mod Spelling
-pub mod PartTypes
-pub mod ConstantTypes
 pub mod FormTypes
 pub mod Typing

@@ -4,10 +4,12 @@ use Rattle.qc_data.specs.Outcome.{Mode, Value, and_then}
 use Rattle.qc_ops.specs.Operands.{found}
 use Rattle.qc_ops.specs.Operators.{unary, binary}
 use Rattle.qc_types.specs.Schemas.{WorldOf, global}
+use Rattle.qc_trees.specs.Branches.{truth}
+use Rattle.qc_ops.specs.Sides.{by_side}
 use Rattle.qc_nra.specs.declared.tree.Nra.{Nra}
 use Rattle.qc_nra.specs.declared.tree.Nra.TheOpen.{Nra-F}
 use Rattle.qc_nra.specs.declared.tree.Nra.TheFolds.{fold-Nra}
-use Rattle.qc_nra.specs.Forms.{Meaning, truth, map_of, select_of, product_of, join_of, default_of, env_map_of, by_side}
+use Rattle.qc_nra.specs.Forms.{Meaning, map_of, select_of, product_of, join_of, default_of, env_map_of}
 
 -- a tree by the meanings of its parts, its input i and its environment e
 abbrev pub form : Mode → WorldOf → Nra-F Meaning → Meaning

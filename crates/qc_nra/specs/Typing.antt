@@ -7,14 +7,14 @@ use Rattle.qc_types.specs.Schemas.{SchemaOf, WorldOf}
 use Rattle.qc_lang.specs.Keeping.{IsOf}
 use Rattle.qc_typing.specs.Tables.{unary_type, binary_type}
 use Rattle.qc_typing.specs.Typed.{HasType, IsTyped}
+use Rattle.qc_trees.specs.ConstantTypes.{constant_type}
+use Rattle.qc_trees.specs.PartTypes.{join_both, chosen_type}
+use Rattle.qc_typing.specs.Kinds.{sides_of}
 use Rattle.qc_nra.specs.declared.tree.Nra.{Nra}
 use Rattle.qc_nra.specs.declared.tree.Nra.TheOpen.{Nra-F}
 use Rattle.qc_nra.specs.declared.tree.Nra.TheFolds.{fold-Nra}
-use Rattle.qc_nra.specs.ConstantTypes.{constant_type}
 use Rattle.qc_nra.specs.FormTypes.{Typing, map_type, select_type, product_type, join_type, default_type, env_map_type}
-use Rattle.qc_nra.specs.FormTypes.{chosen_type}
 use Rattle.qc_nra.specs.Meaning.{nra}
-use Rattle.qc_nra.specs.PartTypes.{sides_of, join_both}
 
 -- a tree by the types of its parts, the type i of its input and the type e of its environment
 abbrev pub form_type : SchemaOf → Nra-F Typing → Typing

@@ -1,4 +1,2 @@
 pub mod Added
-pub mod Held
 pub mod Induction
-pub mod Infers

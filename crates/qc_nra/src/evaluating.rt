@@ -3,15 +3,16 @@ ghost use Rattle.qc_data.specs.Outcome.{and_then, bits64, Gives};
 ghost use Rattle.qc_nra.specs.Forms as forms;
 ghost use Rattle.qc_nra.specs.Meaning.{nra};
 ghost use Rattle.qc_nra.specs.inner.Added.{Adds};
-ghost use Rattle.qc_nra.specs.inner.Held.{GivesHeld};
 ghost use Rattle.qc_ops.specs.Operators.{binary, unary};
+ghost use Rattle.qc_trees.specs.Branches as branches;
+ghost use Rattle.qc_ops.specs.HeldOperands.{GivesHeld};
 
-use crate::lending::{Held, lend};
-use crate::operands::{add_beside, bool_of, fields_of, global_of, items_of, only_bag, product_of};
+use crate::operands::{add_beside, fields_of, only_bag, product_of};
 use crate::tree::Nra;
 use qc_containers::Share;
 use qc_data::{Datum, Halt, Items, copy};
-use qc_ops::{Binary, Unary, apply1, apply2};
+use qc_ops::{Binary, Held, Unary, apply1, apply2_taking};
+use qc_trees::{bool_of, field_of, global_of, items_of};
 use qc_types::World;
 use std::alloc::Global;
 
@@ -32,7 +33,7 @@ pub fn eval_at(
         Nra::Const(d) => Ok(copy(alloc, d)?),
         Nra::Input => Ok(copy(alloc, input)?),
         Nra::Env => Ok(copy(alloc, env)?),
-        Nra::Global(name) => global_of(alloc, world, name),
+        Nra::Global(name) => Ok(copy(alloc, global_of(world, name)?)?),
         Nra::Unary(op, a) => of_one(alloc, a.get(), world, input, env, op),
         Nra::Binary(op, a, b) => {
             let x = held(alloc, a.get(), &*world, &*input, &*env)?;
@@ -82,7 +83,7 @@ pub fn eval_at(
     }
 }
 
-// The outcome of an operand, which is not copied where it stands somewhere.
+// The outcome of an operand, which is lent where it stands somewhere.
 #[cycle(eval)]
 fn held<'a>(
     alloc: Global,
@@ -93,9 +94,24 @@ fn held<'a>(
 ) -> Result<Held<'a>, Halt>
     ensures { GivesHeld (nra bits64 world.now q.now input.now env.now) result }
 {
-    match lend(q, world, input, env) {
-        Some(value) => Ok(Held::Lent(value)),
-        None => Ok(Held::Made(eval_at(alloc, &*q, &*world, &*input, &*env)?)),
+    match q {
+        Nra::Const(d) => Ok(Held::Lent(d)),
+        Nra::Input => Ok(Held::Lent(input)),
+        Nra::Env => Ok(Held::Lent(env)),
+        Nra::Global(name) => Ok(Held::Lent(global_of(world, name)?)),
+        Nra::Unary(Unary::Dot(name), a) => {
+            let owner = held(alloc, a.get(), world, input, env)?;
+            field_of(alloc, name, owner)
+        }
+        Nra::Comp(a, b) => match held(alloc, b.get(), world, input, env)? {
+            Held::Lent(v) => held(alloc, a.get(), world, v, env),
+            Held::Made(v) => Ok(Held::Made(eval_at(alloc, a.get(), &*world, &v, &*env)?)),
+        },
+        Nra::EnvComp(a, b) => match held(alloc, b.get(), world, input, env)? {
+            Held::Lent(v) => held(alloc, a.get(), world, input, v),
+            Held::Made(v) => Ok(Held::Made(eval_at(alloc, a.get(), &*world, &*input, &v)?)),
+        },
+        _ => Ok(Held::Made(eval_at(alloc, &*q, &*world, &*input, &*env)?)),
     }
 }
 
@@ -131,14 +147,14 @@ fn of_right(
         result }
 {
     let y = held(alloc, &*b, &*world, &*input, &*env)?;
-    apply2(alloc, op, x, y.get())
+    apply2_taking(alloc, op, x, y)
 }
 
 // The truth value of a condition.
 #[cycle(eval)]
-#[tactic(auto, unfolding(crate::specs::Forms::truth))]
+#[tactic(auto, unfolding(qc_trees::specs::Branches::truth))]
 fn truth(alloc: Global, test: &Nra, world: &World, input: &Datum, env: &Datum) -> Result<bool, Halt>
-    ensures { Gives (forms.truth (nra bits64 world.now test.now input.now env.now)) result }
+    ensures { Gives (branches.truth (nra bits64 world.now test.now input.now env.now)) result }
 {
     let holds = held(alloc, &*test, &*world, &*input, &*env)?;
     bool_of(holds.get())

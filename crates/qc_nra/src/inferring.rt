@@ -2,18 +2,18 @@
 ghost use Rattle.std.specs.Prelude.{◌≡◌, option_and_then, IfOk};
 ghost use Rattle.qc_nra.specs.FormTypes as forms;
 ghost use Rattle.qc_nra.specs.Typing.{nra_type, IsSound};
-ghost use Rattle.qc_nra.specs.inner.Infers.{Infers};
+ghost use Rattle.qc_trees.specs.Infers.{Infers};
+ghost use Rattle.qc_trees.specs.PartTypes.{chosen_type};
 ghost use Rattle.qc_types.specs.Joins as joining;
 ghost use Rattle.qc_typing.specs.Tables.{binary_type, unary_type};
 
-use crate::constants::constant_type;
-use crate::parts::{coll_of, default_type, global_type, member_of, product_type, sides_of};
+use crate::parts::{default_type, product_type};
 use crate::tree::Nra;
-use crate::untyped::{NoType, known};
 use qc_containers::Memory;
 use qc_ops::{Binary, Unary};
+use qc_trees::{NoType, branches, constant_type, global_type, known, member_of};
 use qc_types::{Classes, Schema, Ty, copy_ty, join, subtype};
-use qc_typing::{type1, type2};
+use qc_typing::{coll_of, sides_of, type1, type2};
 use std::alloc::Global;
 
 /// The types of what a tree has.
@@ -283,26 +283,9 @@ fn last_branch(
     branch: Ty,
 ) -> Result<Ty, NoType>
     ensures { Infers
-        (option_and_then (forms.chosen_type schema.now.classes condition branch)
+        (option_and_then (chosen_type schema.now.classes condition branch)
         (nra_type schema.now other.now input.now env.now)) result }
 {
     let last = type_of(alloc, other, schema, input, env)?;
     branches(alloc, schema.classes(), &condition, &branch, &last)
-}
-
-// The join of two branches, where the condition is a truth value.
-fn branches(
-    alloc: Global,
-    classes: &Classes,
-    condition: &Ty,
-    branch: &Ty,
-    other: &Ty,
-) -> Result<Ty, NoType>
-    ensures { Infers (forms.chosen_type classes.now condition.now branch.now other.now) result }
-{
-    if subtype(classes, condition, &Ty::Bool) {
-        known(join(alloc, classes, branch, other)?)
-    } else {
-        Err(NoType::Untyped)
-    }
 }

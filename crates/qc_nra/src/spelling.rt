@@ -1,15 +1,12 @@
 // The written form of trees, put piece by piece.
 ghost use Rattle.std.specs.Prelude.{◌≡◌, ◌++◌, codes, IfOk, OnOk};
 ghost use Rattle.std.specs.String.{string_bytes};
-ghost use Rattle.qc_data.specs.Encoding.{enc};
 ghost use Rattle.qc_nra.specs.Spelling as spec;
-ghost use Rattle.qc_schema.specs.Writing.{text_of};
+ghost use Rattle.qc_trees.specs.OperatorTexts.{next, opened};
 
-use crate::operator_texts::{binary_word, push, push_json, push_name, push_unary};
 use crate::tree::Nra;
-use qc_containers::{Chars, Memory, Name};
-use qc_data::{Datum, enc};
-use qc_ops::Unary;
+use qc_containers::{Chars, Memory};
+use qc_trees::{binary_word, open_unary, push, push_constant, push_global};
 use std::alloc::Global;
 
 /// The written form of the tree.
@@ -83,41 +80,11 @@ fn push_tree(alloc: Global, q: &Nra, text: &mut String) -> Result<(), Memory>
     }
 }
 
-// Puts a constant.
-fn push_constant(alloc: Global, text: &mut String, d: &Datum) -> Result<(), Memory>
-    ensures { OnOk result
-        (string_bytes text.new ≡ string_bytes text.old ++ spec.with_one (codes "const") (text_of (enc d.now))) }
-{
-    let tree = enc(alloc, d)?;
-    push(text, "(const ")?;
-    push_json(alloc, text, &tree)?;
-    push(text, ")")
-}
-
-// Puts a global.
-fn push_global(alloc: Global, text: &mut String, name: &Name) -> Result<(), Memory>
-    ensures { OnOk result
-        (string_bytes text.new ≡ string_bytes text.old ++ spec.with_one (codes "global") (spec.name_text name.now)) }
-{
-    push(text, "(global ")?;
-    push_name(alloc, text, name)?;
-    push(text, ")")
-}
-
-// Puts what stands before the part of an operator on one value.
-fn open_unary(alloc: Global, text: &mut String, op: &Unary) -> Result<(), Memory>
-    ensures { OnOk result
-        (string_bytes text.new ≡ string_bytes text.old ++ (codes "(" ++ spec.unary_text op.now)) }
-{
-    push(text, "(")?;
-    push_unary(alloc, text, op)
-}
-
 // Puts a head and the first part behind it.
 #[cycle(push)]
 fn push_first(alloc: Global, a: &Nra, text: &mut String, head: &str) -> Result<(), Memory>
     ensures { OnOk result
-        (string_bytes text.new ≡ string_bytes text.old ++ spec.opened head.now (spec.spelling a.now)) }
+        (string_bytes text.new ≡ string_bytes text.old ++ opened head.now (spec.spelling a.now)) }
 {
     push(text, "(")?;
     push(text, head)?;
@@ -127,7 +94,7 @@ fn push_first(alloc: Global, a: &Nra, text: &mut String, head: &str) -> Result<(
 // Puts a part behind a space.
 #[cycle(push)]
 fn push_next(alloc: Global, a: &Nra, text: &mut String) -> Result<(), Memory>
-    ensures { OnOk result (string_bytes text.new ≡ string_bytes text.old ++ spec.next (spec.spelling a.now)) }
+    ensures { OnOk result (string_bytes text.new ≡ string_bytes text.old ++ next (spec.spelling a.now)) }
 {
     push(text, " ")?;
     push_tree(alloc, a, text)
@@ -137,7 +104,7 @@ fn push_next(alloc: Global, a: &Nra, text: &mut String) -> Result<(), Memory>
 #[cycle(push)]
 fn push_last(alloc: Global, a: &Nra, text: &mut String) -> Result<(), Memory>
     ensures { OnOk result
-        (string_bytes text.new ≡ string_bytes text.old ++ (spec.next (spec.spelling a.now) ++ codes ")")) }
+        (string_bytes text.new ≡ string_bytes text.old ++ (next (spec.spelling a.now) ++ codes ")")) }
 {
     push_next(alloc, a, text)?;
     push(text, ")")

@@ -2,14 +2,17 @@
 use Rattle.std.proofs.Common.{ℤ, pos, neg_ℤ, unsigned_abs, int_div, int_rem, ◌+ℤ◌, ◌-ℤ◌, ◌*ℤ◌, List, [], ◌∷◌, length}
 use Rattle.std.proofs.Common.{Some, refl}
 use Rattle.qc_data.specs.Kinds.{as_coll, as_int, made, total}
-use Rattle.qc_data.specs.Outcome.{Value, any_size, within, and_then, Agrees}
+use Rattle.qc_data.specs.Outcome.{Outcome, Value, Halts, Stuck, any_size, within, and_then, Agrees}
 use Rattle.qc_data.specs.declared.data.Datum.{Datum}
+use Rattle.qc_data.specs.declared.data.Datum.TheOpen.{Datum-F}
+use Rattle.qc_data.specs.declared.data.Datum.TheViews.{out-Datum}
 use Rattle.qc_data.proofs.KindLaws.{agrees_made}
 use Rattle.qc_data.proofs.Outcomes.{agrees_same, agrees_then, agrees_after}
 use Rattle.qc_types.specs.Classes.{Defs}
 use Rattle.qc_ops.specs.Numbers.{as_ints, mean_of}
 use Rattle.qc_ops.specs.Operands.{optional}
 use Rattle.qc_ops.specs.Operators.{unary, binary}
+use Rattle.qc_ops.specs.Sides.{side_at, by_side}
 use Rattle.qc_ops.specs.declared.op.Unary.{Unary}
 use Rattle.qc_ops.specs.declared.op.Unary.TheVariants as one
 use Rattle.qc_ops.specs.declared.op.Binary.{Binary}
@@ -53,3 +56,13 @@ agrees_binary low high two.Add a b = on_two low high (λ x y. x +ℤ y) a b
 agrees_binary low high two.Sub a b = on_two low high (λ x y. x -ℤ y) a b
 agrees_binary low high two.Mul a b = on_two low high (λ x y. x *ℤ y) a b
 agrees_binary low high op a b = agrees_same (binary any_size op a b)
+
+agrees_at : {A : Type 0} (f g h k : Datum → Outcome A) → ((x : Datum) → Agrees (f x) (h x))
+    → ((x : Datum) → Agrees (g x) (k x)) → (d : Datum-F Datum) → Agrees (side_at f g d) (side_at h k d)
+agrees_at f g h k p q (Datum-F.Left d) = p d
+agrees_at f g h k p q (Datum-F.Right d) = q d
+agrees_at {A = A} f g h k p q _ = agrees_same {A = A} (Halts Stuck)
+
+pub agrees_side : {A : Type 0} (f g h k : Datum → Outcome A) → ((x : Datum) → Agrees (f x) (h x))
+    → ((x : Datum) → Agrees (g x) (k x)) → (d : Datum) → Agrees (by_side f g d) (by_side h k d)
+agrees_side f g h k p q d = agrees_at f g h k p q (out-Datum d)

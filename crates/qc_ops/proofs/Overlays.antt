@@ -127,6 +127,16 @@ pub over-nil : (fs : Pairs) → Rising fs → over fs [] ≡ fs
 over-nil [] r = refl
 over-nil (f ∷ fs) r = ap (put_new f.0 f.1) (over-nil fs r.1) ∙ put_new-above f.0 f.1 fs r.0
 
+pub over-none : (fs gs : Pairs) → length gs ≡ 0 → Rising fs → over fs gs ≡ fs
+over-none fs [] e r = over-nil fs r
+over-none fs (g ∷ gs) e r = absurd (omega arith)
+
+pub none-over : (fs gs : Pairs) → length fs ≡ 0 → over fs gs ≡ gs
+none-over [] gs e = refl
+none-over (f ∷ fs) gs e = absurd (omega arith)
+
+pub ruleset over_none = (over-none, none-over)
+
 -- ---- two records gone through together, from places i and j on
 
 Above-drop : (n : List ℕ) (i : ℕ) (ps : Pairs) → Above n ps → Above n (drop i ps)

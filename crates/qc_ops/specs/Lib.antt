@@ -10,3 +10,4 @@ pub mod Sides
 pub mod Sorting
 pub mod Grouping
 pub mod Operators
+pub mod HeldOperands

@@ -1,8 +1,10 @@
 -- Sides of sums, and values of classes.
 use Rattle.std.specs.Prelude.{ℕ, Bool, cond, ◌||◌, List, Some, None}
 use Rattle.std.specs.Str.{bytes_eq}
-use Rattle.qc_data.specs.Outcome.{Outcome, Value, and_then}
+use Rattle.qc_data.specs.Outcome.{Outcome, Value, Halts, Stuck, and_then}
 use Rattle.qc_data.specs.declared.data.Datum.{Datum}
+use Rattle.qc_data.specs.declared.data.Datum.TheOpen.{Datum-F}
+use Rattle.qc_data.specs.declared.data.Datum.TheViews.{out-Datum}
 use Rattle.qc_data.specs.declared.data.Datum.TheVariants.{Left, Right, Brand}
 use Rattle.qc_types.specs.Classes.{Defs, below}
 use Rattle.qc_ops.specs.Operands.{as_brand, optional}
@@ -29,3 +31,13 @@ is_under c name other = bytes_eq name other || below c name other
 -- cast
 abbrev pub cast : Defs → List ℕ → Datum → Outcome Datum
 cast c name a = and_then (as_brand a) (λ b. Value (optional (cond (is_under c b.0 name) (Some a) None)))
+
+-- by the outermost layer of a datum, what its left and its right content give
+abbrev pub side_at : {A : Type 0} → (Datum → Outcome A) → (Datum → Outcome A) → Datum-F Datum → Outcome A
+side_at f g (Datum-F.Left d) = f d
+side_at f g (Datum-F.Right d) = g d
+side_at f g _ = Halts Stuck
+
+-- what the content of a left and of a right value gives
+abbrev pub by_side : {A : Type 0} → (Datum → Outcome A) → (Datum → Outcome A) → Datum → Outcome A
+by_side f g d = side_at f g (out-Datum d)

@@ -2,6 +2,7 @@
 ghost use Rattle.std.specs.Prelude.{ℤ};
 ghost use Rattle.qc_data.specs.declared.data.Datum.{Datum};
 ghost use Rattle.qc_data.specs.Outcome.{any_size, bits64, within, Agrees, Gives};
+ghost use Rattle.qc_ops.specs.HeldOperands.{datum_of};
 ghost use Rattle.qc_ops.specs.Operators.{binary, unary};
 
 use crate::aggregates::{average, count, maximum, minimum, sum};
@@ -9,11 +10,12 @@ use crate::bags::{
     bag_of, distinct, equality, except, flattened, intersection, membership, only_member, union,
 };
 use crate::grouping::grouped;
+use crate::held::Held;
 use crate::numbers::{
     absolute, addition, greater, lesser, multiplication, negative, quotient, remainder, subtraction,
 };
 use crate::op::{Binary, Unary};
-use crate::records::{concatenation, field, merger, projection, record_of};
+use crate::records::{concatenation, concatenation_taking, field, merger, projection, record_of};
 use crate::sides::{cast, class_value, content, on_left, on_right};
 use crate::sorting::ordered;
 use crate::texts::{joined, likeness};
@@ -75,6 +77,20 @@ pub fn apply2(alloc: Global, op: &Binary, a: &Datum, b: &Datum) -> Result<Datum,
         → Agrees (binary any_size op.now first second) (binary (within low high) op.now first second) }
 {
     binary_value(alloc, op, a, b)
+}
+
+/// The same value on a second operand that is not needed again: where the operator is `Cat`, a few fields of the first
+/// are put in place into a second record that was made.
+pub fn apply2_taking(alloc: Global, op: &Binary, a: &Datum, b: Held) -> Result<Datum, Halt>
+    ensures { Gives (binary bits64 op.now a.now (datum_of b.entry)) result }
+{
+    match b {
+        Held::Lent(b) => binary_value(alloc, op, a, b),
+        Held::Made(b) => match op {
+            Binary::Cat => concatenation_taking(alloc, a, b),
+            _ => binary_value(alloc, op, a, &b),
+        },
+    }
 }
 
 // The value by the operator.

@@ -1,16 +1,30 @@
 // Two records walked together.
 ghost use Rattle.std.specs.Prelude.{◌≡◌, [], ◌∷◌, ◌++◌, OnOk, IfOk};
 ghost use Rattle.qc_containers.specs.Rising.{Rising};
-ghost use Rattle.qc_ops.specs.Records.{compatible, over};
+ghost use Rattle.qc_ops.specs.Records.{compatible, over, put_new};
 
-use qc_containers::{Memory, Name};
+use qc_containers::{Memory, Name, Share};
 use qc_data::{Datum, Fields, copy};
 use qc_keys::is_same;
 use std::alloc::Global;
 use std::cmp::Ordering;
 
-// All fields, the second's on shared names, in one pass over both.
+// All fields, the second's on shared names. Where one record has none, the other is shared.
+#[tactic(auto, using(crate::proofs::Overlays::over_none))]
 pub(crate) fn over(alloc: Global, first: &Fields, second: &Fields) -> Result<Fields, Memory>
+    ensures { IfOk result (λ made. made ≡ over first.now second.now) }
+{
+    if first.as_slice().is_empty() {
+        second.share(alloc)
+    } else if second.as_slice().is_empty() {
+        first.share(alloc)
+    } else {
+        walked(alloc, first, second)
+    }
+}
+
+// The same in one pass over both.
+fn walked(alloc: Global, first: &Fields, second: &Fields) -> Result<Fields, Memory>
     ensures { IfOk result (λ made. made ≡ over first.now second.now) }
 {
     let left = first.as_slice();
@@ -36,6 +50,49 @@ pub(crate) fn over(alloc: Global, first: &Fields, second: &Fields) -> Result<Fie
     put_all_last(alloc, &mut all, &left[at..])?;
     put_all_last(alloc, &mut all, &right[to..])?;
     Ok(all)
+}
+
+// At most so many fields are put into a record one by one.
+const FEW: usize = 4;
+
+// The same of a second record that is not needed again, into which a few fields are put in place.
+pub(crate) fn over_taken(alloc: Global, first: &Fields, second: Fields) -> Result<Fields, Memory>
+    ensures { IfOk result (λ made. made ≡ over first.now second) }
+{
+    if first.len() > FEW {
+        over(alloc, first, &second)
+    } else {
+        put_under(alloc, first.as_slice(), second)
+    }
+}
+
+// Fields put into a record that is not needed again, the last first.
+fn put_under(alloc: Global, fields: &[(Name, Datum)], second: Fields) -> Result<Fields, Memory>
+    ensures { IfOk result (λ made. made ≡ over fields.now second) }
+{
+    match fields {
+        [] => Ok(second),
+        [field, later @ ..] => {
+            let mut made = put_under(alloc, later, second)?;
+            put_new(alloc, &mut made, field)?;
+            Ok(made)
+        }
+    }
+}
+
+// Puts a copy of the field in its place, unless there is one of its name.
+fn put_new(alloc: Global, all: &mut Fields, field: &(Name, Datum)) -> Result<(), Memory>
+    ensures { OnOk result (all.new ≡ put_new field.now.0 field.now.1 all.old) }
+{
+    if all.get(field.0.as_str()).is_some() {
+        return Ok(());
+    }
+    let name = field.0.copy(alloc)?;
+    let value = copy(alloc, &field.1)?;
+    match all.put(name, value) {
+        Ok(()) => Ok(()),
+        Err(_) => Err(Memory),
+    }
 }
 
 // Whether the values at shared names are the same, in one pass over both.

@@ -4,7 +4,7 @@ ghost use Rattle.qc_data.specs.Outcome.{Gives};
 ghost use Rattle.qc_ops.specs.Records.{concatenation, field, fields_at, has_names, is_among, merger};
 ghost use Rattle.qc_ops.specs.Records.{part_of, projection, record_of};
 
-use crate::joining::{compatible, over, put_last};
+use crate::joining::{compatible, over, over_taken, put_last};
 use crate::op::Names;
 use crate::operands::fields_of;
 use qc_containers::{Memory, Name};
@@ -94,6 +94,17 @@ pub(crate) fn concatenation(alloc: Global, a: &Datum, b: &Datum) -> Result<Datum
     let second = fields_of(b)?;
     let all = over(alloc, first, second)?;
     Ok(Datum::Rec(all))
+}
+
+// The same of a second record that is not needed again.
+pub(crate) fn concatenation_taking(alloc: Global, a: &Datum, b: Datum) -> Result<Datum, Halt>
+    ensures { Gives (concatenation a.now b) result }
+{
+    let first = fields_of(a)?;
+    match b {
+        Datum::Rec(second) => Ok(Datum::Rec(over_taken(alloc, first, second)?)),
+        _ => Err(Halt::Stuck),
+    }
 }
 
 pub(crate) fn merger(alloc: Global, a: &Datum, b: &Datum) -> Result<Datum, Halt>

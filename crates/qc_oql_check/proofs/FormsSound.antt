@@ -47,7 +47,8 @@ use Rattle.qc_oql_tree.specs.declared.tree.Quantifier.{Quantifier}
 use Rattle.qc_oql_tree.specs.Bindings.{Bindings, Meaning}
 use Rattle.qc_oql_tree.specs.FormMeanings.{NamedMeaning, constant, bound, matched, truth, chosen, decided, tested}
 use Rattle.qc_oql_tree.specs.FormMeanings.{quantified, collected}
-use Rattle.qc_oql_tree.specs.OperatorMeanings.{after, one_value, both, of_two, side_at, by_side, or_else_of}
+use Rattle.qc_oql_tree.specs.OperatorMeanings.{after, one_value, both, of_two, or_else_of}
+use Rattle.qc_ops.specs.Sides.{side_at, by_side}
 use Rattle.qc_oql_tree.specs.OperatorMeanings.{is_some_list, is_divisor, divided, division, branded, branding}
 use Rattle.qc_oql_tree.specs.inner.Pairings.{on_one, at_one, type_at_one, pairing_of, paired, by_pairing}
 use Rattle.qc_oql_tree.specs.inner.Pairings.{type_by_pairing}
@@ -56,7 +57,8 @@ use Rattle.qc_oql_tree.specs.declared.pairing.Pairing.{Pairing}
 use Rattle.qc_oql_tree.specs.declared.pairing.Pairing.TheVariants as pairing
 use Rattle.qc_oql_tree.specs.FormTypings.{Types, Typing, NamedTyping, type_after, type_of_both, matched_type}
 use Rattle.qc_oql_tree.specs.FormTypings.{chosen_type, quantified_type, collected_type}
-use Rattle.qc_oql_tree.specs.PartTypes.{members_bound, bound_by, sides_bound, join_all}
+use Rattle.qc_oql_tree.specs.PartTypes.{join_all}
+use Rattle.qc_typing.specs.Kinds.{members_bound, bound_by, sides_bound}
 use Rattle.qc_oql_tree.specs.OperatorTypes.{constant_type, one_type, two_type, divided_type, field_type, branded_type}
 use Rattle.qc_oql_check.proofs.Checked.{Checked, Zip, checked_after, checked_chain, checked_each, checked_fault}
 use Rattle.qc_oql_check.proofs.Checked.{checked_need, checked_then}

@@ -4,7 +4,6 @@ pub mod Binding
 pub mod Checked
 pub mod Forms
 pub mod FormsSound
-pub mod Layers
 pub mod Lookups
 pub mod Scopes
 pub mod SelectSound

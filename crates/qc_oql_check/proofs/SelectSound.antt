@@ -30,7 +30,7 @@ use Rattle.qc_oql_tree.specs.SelectMeaning.{kept_row, filtered, key_values, keye
 use Rattle.qc_oql_tree.specs.SelectMeaning.{are_sortable, keys_cmp, sorted, ordered_by, ordered, distinct_if, selected}
 use Rattle.qc_oql_tree.specs.FormTypings.{Types, Typing, NamedTyping, FilterTyping, OrderTyping, source_type}
 use Rattle.qc_oql_tree.specs.FormTypings.{sources_bound, filter_checked, keys_checked, order_checked, selected_type}
-use Rattle.qc_oql_tree.specs.PartTypes.{bound_by}
+use Rattle.qc_typing.specs.Kinds.{bound_by}
 use Rattle.qc_oql_tree.specs.Typing.{defined_type}
 use Rattle.qc_oql_check.proofs.Checked.{Checked, Zip, checked_at, checked_fault, checked_gather, checked_known}
 use Rattle.qc_oql_check.proofs.Checked.{checked_map, checked_then, each_zip, zip_through}

@@ -6,7 +6,7 @@ ghost use Rattle.qc_types.specs.Types.{sub};
 ghost use Rattle.qc_types.specs.declared.ty.Ty.TheVariants as ty;
 ghost use Rattle.qc_oql_tree.specs.FormTypings as form;
 ghost use Rattle.qc_oql_tree.specs.OperatorTypes.{branded_type, divided_type, field_type, one_type, two_type};
-ghost use Rattle.qc_oql_tree.specs.PartTypes.{sides_of};
+ghost use Rattle.qc_typing.specs.Kinds.{sides_of};
 ghost use Rattle.qc_oql_check.specs.inner.Scopes.{ChecksAs, field_types, onto, types_of};
 ghost use Rattle.qc_oql_check.specs.inner.Selected.{by_parts};
 ghost use Rattle.qc_oql_tree.specs.Typing as typing;
@@ -16,13 +16,13 @@ ghost use Rattle.qc_typing.specs.Tables.{unary_type};
 
 use crate::faults::{need, or_fault};
 use crate::operators::{branded_type, divided_type, field_type, like_type, one_type, two_type};
-use crate::parts::{bool_when, bound_by, coll_of, constant_type, is_atom, join_all, sides_of};
+use crate::parts::{bool_when, constant_type, join_all};
 use crate::record::{TypedField, row_of};
 use crate::scope::{Row, Scope, name_type};
 use qc_containers::{Chars, List, is_name};
 use qc_oql_tree::{Binary, Branding, Division, Filter, Key, Named, Oql, Order, Select, Unary};
 use qc_types::{Classes, Schema, Ty, Width, copy_ty, join, subtype};
-use qc_typing::TypeFault;
+use qc_typing::{TypeFault, bound_by, coll_of, is_atom, sides_of};
 use std::alloc::Global;
 
 // The type of an expression.

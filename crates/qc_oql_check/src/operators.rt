@@ -5,12 +5,11 @@ ghost use Rattle.qc_ops.specs.declared.op.Unary.TheVariants as one;
 ghost use Rattle.qc_typing.specs.Tables.{unary_type};
 ghost use Rattle.qc_oql_tree.specs.OperatorTypes.{branded_type, divided_type, field_type, one_type, two_type};
 
-use crate::parts::{bound_by, sides_of};
 use qc_containers::{Chars, Memory, Name, NameFault};
 use qc_ops::{Binary as OnTwo, Divisor, Unary as OnOne};
 use qc_oql_tree::{Binary, Branding, Division, Pairing, Unary, on_one, pairing_of};
 use qc_types::{Classes, Ty, join};
-use qc_typing::{type1, type2};
+use qc_typing::{bound_by, sides_of, type1, type2};
 use std::alloc::Global;
 
 // An operator of one operand.

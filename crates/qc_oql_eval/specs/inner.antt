@@ -1,5 +1,4 @@
 pub mod Columns
-pub mod Held
 pub mod Kept
 pub mod SelectRows
 pub mod Scopes

@@ -5,21 +5,21 @@ ghost use Rattle.qc_ops.specs.Records.{field};
 ghost use Rattle.qc_ops.specs.Texts.{likeness};
 ghost use Rattle.qc_oql_eval.specs.inner.Scopes.{bindings_of};
 ghost use Rattle.qc_oql_tree.specs.FormMeanings as form;
-ghost use Rattle.qc_oql_eval.specs.inner.Held.{GivesHeld};
+ghost use Rattle.qc_ops.specs.HeldOperands.{GivesHeld};
 ghost use Rattle.qc_oql_tree.specs.Meaning as meaning;
 ghost use Rattle.qc_oql_tree.specs.OperatorMeanings.{after, branded, divided, one_value, or_else_of};
 ghost use Rattle.qc_oql_tree.specs.inner.Pairings.{paired};
 
 use crate::keeping::kept_rows;
 use crate::operands::{bool_of, name_of};
-use crate::operators::{branded, divided, field, likeness, one_value, paired};
-use crate::paths::{Held, place_of};
+use crate::operators::{branded, divided, field_at, likeness, one_value, paired};
 use crate::quantifying::tested;
 use crate::record::record_of;
 use crate::scope::{Scope, value_of};
 use crate::selecting::selected;
 use qc_containers::Chars;
 use qc_data::{Datum, Halt, Items, copy};
+use qc_ops::Held;
 use qc_oql_tree::{Branding, Constant, Division, Named, Oql, Pairing, Unary, pairing_of};
 use qc_types::World;
 use std::alloc::Global;
@@ -31,7 +31,7 @@ pub(crate) fn outcome(alloc: Global, world: &World, scope: &Scope, of: &Oql) -> 
     ensures { Gives (meaning.oql bits64 world.now of.now (bindings_of scope.now)) result }
 {
     match of {
-        Oql::Name(_, name) => value_of(alloc, world, scope, name),
+        Oql::Name(_, name) => Ok(copy(alloc, value_of(world, scope, name)?)?),
         Oql::Whole(_, n) => Ok(Datum::Int(*n)),
         Oql::Text(_, text) => Ok(Datum::Text(text.copy(alloc)?)),
         Oql::Constant(_, constant) => Ok(constant_of(*constant)),
@@ -95,7 +95,7 @@ fn constant_of(constant: Constant) -> Datum
     }
 }
 
-// The outcome of an operand, which is not copied where it is a path.
+// The outcome of an operand, which is lent where it is a name, or a path from one.
 #[cycle(eval)]
 pub(crate) fn operand<'a>(
     alloc: Global,
@@ -105,9 +105,13 @@ pub(crate) fn operand<'a>(
 ) -> Result<Held<'a>, Halt>
     ensures { GivesHeld (meaning.oql bits64 world.now of.now (bindings_of scope.now)) result }
 {
-    match place_of(world, scope, of) {
-        Some(value) => Ok(Held::Lent(value)),
-        None => Ok(Held::Made(outcome(alloc, &*world, &*scope, of)?)),
+    match of {
+        Oql::Name(_, name) => Ok(Held::Lent(value_of(world, scope, name)?)),
+        Oql::Dot(_, a, label) => match operand(alloc, world, scope, a.get())? {
+            Held::Lent(owner) => Ok(Held::Lent(field_at(label, owner)?)),
+            Held::Made(owner) => Ok(Held::Made(copy(alloc, field_at(label, &owner)?)?)),
+        },
+        _ => Ok(Held::Made(outcome(alloc, &*world, &*scope, of)?)),
     }
 }
 
@@ -237,7 +241,7 @@ fn of_dot(
     ensures { Gives (after (field label.now) (meaning.oql bits64 world.now a.now) (bindings_of scope.now)) result }
 {
     let x = operand(alloc, &*world, &*scope, a)?;
-    field(alloc, label, x.get())
+    Ok(copy(alloc, field_at(label, x.get())?)?)
 }
 
 // A function of a class.

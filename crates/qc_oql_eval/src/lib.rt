@@ -6,7 +6,6 @@ mod keeping;
 mod operands;
 mod operators;
 mod ordering;
-mod paths;
 mod quantifying;
 mod query;
 mod record;

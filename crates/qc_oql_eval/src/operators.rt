@@ -1,9 +1,6 @@
 // How the operators of queries go back to operators on values.
-ghost use Rattle.std.specs.Option.{option_copied};
-ghost use Rattle.std.specs.Prelude.{◌≡◌};
-ghost use Rattle.qc_data.specs.Outcome.{bits64, Gives, Value};
+ghost use Rattle.qc_data.specs.Outcome.{bits64, Gives, GivesRef, Value};
 ghost use Rattle.qc_data.specs.declared.data.Datum.TheVariants.{Coll};
-ghost use Rattle.qc_ops.specs.Operands.{found};
 ghost use Rattle.qc_ops.specs.Records.{field};
 ghost use Rattle.qc_ops.specs.Texts.{likeness};
 ghost use Rattle.qc_oql_tree.specs.OperatorMeanings.{branded, divided, one_value};
@@ -12,7 +9,7 @@ ghost use Rattle.qc_oql_tree.specs.SelectMeaning.{distinct_if};
 
 use crate::operands::{items_of, name_of};
 use qc_containers::Chars;
-use qc_data::{Datum, Halt, Items, copy};
+use qc_data::{Datum, Halt, Items};
 use qc_ops::{Binary as OnTwo, Divisor, Unary as OnOne, apply1, apply2, like};
 use qc_oql_tree::{Branding, Division, Pairing, Unary, branding, division, on_one};
 use qc_types::Classes;
@@ -97,23 +94,16 @@ pub(crate) fn likeness(pattern: &Chars, a: &Datum) -> Result<Datum, Halt>
     }
 }
 
-// What stands in a record at the label.
-pub(crate) fn found_at<'a>(label: &Chars, a: &'a Datum) -> Option<&'a Datum>
-    ensures { field label.now a.now ≡ found (option_copied result) }
+// The value of a record at the label.
+pub(crate) fn field_at<'a>(label: &Chars, a: &'a Datum) -> Result<&'a Datum, Halt>
+    ensures { GivesRef (field label.now a.now) result }
 {
     match a {
-        Datum::Rec(fields) => fields.get(label.as_str()),
-        _ => None,
-    }
-}
-
-// A copy of what stands in a record at the label.
-pub(crate) fn field(alloc: Global, label: &Chars, a: &Datum) -> Result<Datum, Halt>
-    ensures { Gives (field label.now a.now) result }
-{
-    match found_at(label, a) {
-        Some(value) => Ok(copy(alloc, value)?),
-        None => Err(Halt::Stuck),
+        Datum::Rec(fields) => match fields.get(label.as_str()) {
+            Some(value) => Ok(value),
+            None => Err(Halt::Stuck),
+        },
+        _ => Err(Halt::Stuck),
     }
 }
 

@@ -1,16 +1,14 @@
 // Scopes: what names stand for.
 ghost use Rattle.std.specs.Option.{option_copied};
 ghost use Rattle.std.specs.Prelude.{◌≡◌};
-ghost use Rattle.qc_data.specs.Outcome.{Gives};
+ghost use Rattle.qc_data.specs.Outcome.{GivesRef};
 ghost use Rattle.qc_containers.specs.Pairs.{lookup};
-ghost use Rattle.qc_ops.specs.Operands.{found};
 ghost use Rattle.qc_oql_eval.specs.inner.Scopes.{bindings_of};
 ghost use Rattle.qc_oql_tree.specs.Bindings.{value_of};
 
 use qc_containers::{Chars, List};
-use qc_data::{Datum, Halt, copy};
+use qc_data::{Datum, Halt};
 use qc_types::World;
-use std::alloc::Global;
 
 // The bindings that a row of a select makes, the newest first.
 pub(crate) type Row = List<(Chars, Datum)>;
@@ -30,27 +28,19 @@ pub(crate) enum Scope<'a> {
 }
 
 // What a name stands for: its newest binding, or else its global.
-pub(crate) fn found<'a>(world: &'a World, scope: &'a Scope<'a>, name: &Chars) -> Option<&'a Datum>
-    ensures { value_of world.now name.now (bindings_of scope.now) ≡ found (option_copied result) }
+pub(crate) fn value_of<'a>(
+    world: &'a World,
+    scope: &'a Scope<'a>,
+    name: &Chars,
+) -> Result<&'a Datum, Halt>
+    ensures { GivesRef (value_of world.now name.now (bindings_of scope.now)) result }
 {
     match binding(scope, name) {
-        Some(value) => Some(value),
-        None => world.get(name.as_str()),
-    }
-}
-
-// A copy of what a name stands for.
-pub(crate) fn value_of(
-    alloc: Global,
-    world: &World,
-    scope: &Scope,
-    name: &Chars,
-) -> Result<Datum, Halt>
-    ensures { Gives (value_of world.now name.now (bindings_of scope.now)) result }
-{
-    match found(world, scope, name) {
-        Some(value) => Ok(copy(alloc, value)?),
-        None => Err(Halt::Stuck),
+        Some(value) => Ok(value),
+        None => match world.get(name.as_str()) {
+            Some(value) => Ok(value),
+            None => Err(Halt::Stuck),
+        },
     }
 }
 

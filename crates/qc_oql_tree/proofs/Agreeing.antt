@@ -4,12 +4,10 @@ use Rattle.std.specs.Prelude.{Option, Some, None, cond}
 use Rattle.qc_data.specs.Kinds.{as_coll}
 use Rattle.qc_data.specs.Outcome.{any_size, within, Outcome, Value, Halts, Stuck, and_then, gather, each, alone, Agrees}
 use Rattle.qc_data.specs.declared.data.Datum.{Datum}
-use Rattle.qc_data.specs.declared.data.Datum.TheOpen.{Datum-F}
-use Rattle.qc_data.specs.declared.data.Datum.TheViews.{out-Datum}
 use Rattle.qc_data.proofs.Outcomes.{agrees_same, agrees_then, agrees_after, agrees_gather}
 use Rattle.qc_ops.specs.Operands.{as_bool, only_if}
 use Rattle.qc_ops.specs.Operators.{unary}
-use Rattle.qc_ops.proofs.OperatorLaws.{agrees_unary, agrees_binary}
+use Rattle.qc_ops.proofs.OperatorLaws.{agrees_unary, agrees_binary, agrees_side}
 use Rattle.qc_types.specs.Classes.{Defs}
 use Rattle.qc_oql_tree.specs.declared.tree.Branding.{Branding}
 use Rattle.qc_oql_tree.specs.declared.tree.Direction.{Direction}
@@ -20,7 +18,7 @@ use Rattle.qc_oql_tree.specs.declared.tree.Binary.{Binary}
 use Rattle.qc_oql_tree.specs.Bindings.{Bindings, Meaning}
 use Rattle.qc_oql_tree.specs.FormMeanings.{NamedMeaning, bound, matched, truth, chosen, decided, tested, quantified}
 use Rattle.qc_oql_tree.specs.FormMeanings.{collected, field_of, structured}
-use Rattle.qc_oql_tree.specs.OperatorMeanings.{after, one_value, of_two, both, side_at, by_side, or_else, is_divisor}
+use Rattle.qc_oql_tree.specs.OperatorMeanings.{after, one_value, of_two, both, or_else, is_divisor}
 use Rattle.qc_oql_tree.specs.OperatorMeanings.{divided, division, name_of, branded, branding}
 use Rattle.qc_oql_tree.specs.inner.Pairings.{on_one, at_one, pairing_of, by_pairing, paired}
 use Rattle.qc_oql_tree.specs.Meaning.{defined}
@@ -88,16 +86,6 @@ agrees_both : (f g : Datum → Datum → Outcome Datum) (a b c d : Meaning) → 
     → AgreesM a c → AgreesM b d → AgreesM (both f a b) (both g c d)
 agrees_both f g a b c d h p q s =
     agrees_then (a s) (c s) _ _ (p s) (λ x. agrees_then (b s) (d s) (f x) (g x) (q s) (h x))
-
-agrees_at : (f g h k : Datum → Outcome Datum) → ((x : Datum) → Agrees (f x) (h x)) → ((x : Datum) → Agrees (g x) (k x))
-    → (d : Datum-F Datum) → Agrees (side_at f g d) (side_at h k d)
-agrees_at f g h k p q (Datum-F.Left d) = p d
-agrees_at f g h k p q (Datum-F.Right d) = q d
-agrees_at f g h k p q _ = agrees_same {A = Datum} (Halts Stuck)
-
-agrees_side : (f g h k : Datum → Outcome Datum) → ((x : Datum) → Agrees (f x) (h x))
-    → ((x : Datum) → Agrees (g x) (k x)) → (d : Datum) → Agrees (by_side f g d) (by_side h k d)
-agrees_side f g h k p q d = agrees_at f g h k p q (out-Datum d)
 
 agrees_or_else : (a b c d : Meaning) → AgreesM a c → AgreesM b d → AgreesM (or_else a b) (or_else c d)
 agrees_or_else a b c d p q s = agrees_then (a s) (c s) _ _ (p s) (agrees_side _ _ _ _ (λ x. refl) (λ x. q s))

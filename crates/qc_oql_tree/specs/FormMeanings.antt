@@ -14,7 +14,8 @@ use Rattle.qc_oql_tree.specs.declared.tree.Constant.TheVariants.{True, False, Ni
 use Rattle.qc_oql_tree.specs.declared.tree.Quantifier.{Quantifier}
 use Rattle.qc_oql_tree.specs.declared.tree.Quantifier.TheVariants.{Exists, ForAll}
 use Rattle.qc_oql_tree.specs.Bindings.{Bindings, Meaning}
-use Rattle.qc_oql_tree.specs.OperatorMeanings.{by_side, name_of}
+use Rattle.qc_oql_tree.specs.OperatorMeanings.{name_of}
+use Rattle.qc_ops.specs.Sides.{by_side}
 
 -- a name with the meaning of its expression
 abbrev pub NamedMeaning : Type 0

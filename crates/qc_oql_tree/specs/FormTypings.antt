@@ -15,7 +15,8 @@ use Rattle.qc_typing.specs.Checking.{and_check, or_fault, need, each_checked}
 use Rattle.qc_typing.specs.Kinds.{when}
 use Rattle.qc_typing.specs.FieldTypes.{is_atom}
 use Rattle.qc_oql_tree.specs.Bindings.{or_else_some}
-use Rattle.qc_oql_tree.specs.PartTypes.{bound_by, sides_of, join_all, FieldType, row_of}
+use Rattle.qc_oql_tree.specs.PartTypes.{join_all, FieldType, row_of}
+use Rattle.qc_typing.specs.Kinds.{bound_by, sides_of}
 
 -- variables and definitions with their types, the newest first
 abbrev pub Types : Type 0

@@ -4,10 +4,8 @@ use Rattle.std.specs.Prelude.{ℕ, ℤ, pos, Bool, true, false, not, List, [], �
 use Rattle.std.specs.Ordering.{int_eq}
 use Rattle.qc_data.specs.Kinds.{as_coll}
 use Rattle.qc_containers.specs.Name.{is_name}
-use Rattle.qc_data.specs.Outcome.{Mode, Outcome, Value, Halts, Stuck, and_then}
+use Rattle.qc_data.specs.Outcome.{Mode, Outcome, Value, and_then}
 use Rattle.qc_data.specs.declared.data.Datum.{Datum}
-use Rattle.qc_data.specs.declared.data.Datum.TheOpen.{Datum-F}
-use Rattle.qc_data.specs.declared.data.Datum.TheViews.{out-Datum}
 use Rattle.qc_data.specs.declared.data.Datum.TheVariants.{Bool as Truth}
 use Rattle.qc_types.specs.Classes.{Defs}
 use Rattle.qc_ops.specs.declared.op.Unary.{Unary as OnOne}
@@ -16,6 +14,7 @@ use Rattle.qc_ops.specs.declared.op.Binary.TheVariants as two
 use Rattle.qc_ops.specs.Operands.{only_if}
 use Rattle.qc_ops.specs.Operators.{unary, binary}
 use Rattle.qc_ops.specs.Sameness.{equality}
+use Rattle.qc_ops.specs.Sides.{by_side}
 use Rattle.qc_ops.specs.Truths.{negation}
 use Rattle.qc_oql_tree.specs.declared.tree.Unary.{Unary}
 use Rattle.qc_oql_tree.specs.declared.tree.Unary.TheVariants as oql1
@@ -69,16 +68,6 @@ both f a b s = and_then (a s) (λ x. and_then (b s) (λ y. f x y))
 -- whether two values differ
 abbrev pub unequal : Datum → Datum → Outcome Datum
 unequal x y = and_then (equality x y) negation
-
--- what a left and a right content give
-abbrev pub side_at : (Datum → Outcome Datum) → (Datum → Outcome Datum) → Datum-F Datum → Outcome Datum
-side_at f g (Datum-F.Left d) = f d
-side_at f g (Datum-F.Right d) = g d
-side_at f g _ = Halts Stuck
-
--- the same of a value of two sides
-abbrev pub by_side : (Datum → Outcome Datum) → (Datum → Outcome Datum) → Datum → Outcome Datum
-by_side f g d = side_at f g (out-Datum d)
 
 -- the content of a left value; of a right one the other operand, which is evaluated only then
 abbrev pub or_else_of : Meaning → Bindings → Datum → Outcome Datum

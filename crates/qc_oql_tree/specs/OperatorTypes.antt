@@ -17,7 +17,7 @@ use Rattle.qc_oql_tree.specs.declared.tree.Constant.{Constant}
 use Rattle.qc_oql_tree.specs.declared.tree.Constant.TheVariants.{True, False, Nil}
 use Rattle.qc_oql_tree.specs.declared.tree.Division.{Division}
 use Rattle.qc_oql_tree.specs.OperatorMeanings.{division, is_divisor, branding}
-use Rattle.qc_oql_tree.specs.PartTypes.{bound_by, sides_of}
+use Rattle.qc_typing.specs.Kinds.{bound_by, sides_of}
 
 -- the type of `true`, `false` or `nil`
 abbrev pub constant_type : Constant → Ty

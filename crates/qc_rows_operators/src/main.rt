@@ -1,9 +1,14 @@
-//! The program that tries rows on operators, their values and their types, and on trees of the algebra.
+//! The program that tries rows on operators, their values and their types, and on trees of the languages between.
 #![tactic(auto)]
 
 mod algebra;
+mod algebra_tree;
+mod bindings;
+mod calculus;
+mod calculus_tree;
+mod calls;
 mod operator;
-mod tree;
+mod parts;
 
 use crate::operator::{binary, parameters, unary};
 use qc_data::{Datum, Halt, Json, enc};
@@ -36,6 +41,7 @@ impl Rows for Operators {
             "operators" => value(alloc, row)?,
             "types" => type_of(alloc, row)?,
             "algebra" => return algebra::tried(alloc, texts, row),
+            "calculus" => return calculus::tried(alloc, texts, row),
             _ => return Err(Odd::Form),
         };
         Compared::of(alloc, texts, row, came.as_str())

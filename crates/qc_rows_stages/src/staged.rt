@@ -1,11 +1,13 @@
 // A query as far as a stage, and its outcome there.
-ghost use Rattle.std.specs.Prelude.{◌≤◌, length};
+ghost use Rattle.std.specs.Prelude.{◌≤◌, ◌^◌, length, IfOk};
+ghost use Rattle.qc_nra.specs.Sizes.{size};
 
 use qc_containers::Memory;
 use qc_data::Json;
 use qc_lang::{Lang, Pass};
 use qc_lex::Table;
-use qc_nra::{Nra, spell};
+use qc_lower::NraToNnrc;
+use qc_nra::Nra;
 use qc_oql::read;
 use qc_rows::{
     Answers, Compared, Form, Odd, Texts, fault_text, outcome_tree, schema, word_tree, world,
@@ -18,13 +20,27 @@ use std::alloc::Global;
 /// The most bytes of a query.
 const MOST_BYTES: usize = 65_536;
 
+// A stage of the pipeline, by its language.
+#[derive(Drop)]
+enum Stage {
+    Algebra,
+    Calculus,
+}
+
 /// The row's query as far as the row's stage, of which each call that the row names is made; or why there is none.
 pub fn tried(alloc: Global, texts: &Texts, row: &mut Form) -> Result<Compared, Odd> {
-    if row.word("stage")? != "nraenv" {
-        return Err(Odd::Form);
-    }
+    let stage = stage_of(row.word("stage")?)?;
     let schema = schema(alloc, texts, row)?;
-    in_schema(alloc, texts, row, &schema)
+    in_schema(alloc, texts, row, &schema, stage)
+}
+
+// The stage of the name.
+fn stage_of(name: &str) -> Result<Stage, Odd> {
+    match name {
+        "nraenv" => Ok(Stage::Algebra),
+        "nnrc" => Ok(Stage::Calculus),
+        _ => Err(Odd::Form),
+    }
 }
 
 // The same in a schema.
@@ -33,10 +49,11 @@ fn in_schema(
     texts: &Texts,
     row: &mut Form,
     schema: &Schema,
+    stage: Stage,
 ) -> Result<Compared, Odd> {
     let globals = row.maybe("input");
     match translated(alloc, texts, row, schema)? {
-        Ok(tree) => answered(alloc, schema, globals, row, &tree),
+        Ok(tree) => at_stage(alloc, schema, globals, row, stage, tree),
         Err(fault) => faulty(alloc, texts, row, fault),
     }
 }
@@ -47,7 +64,9 @@ fn translated(
     texts: &Texts,
     row: &mut Form,
     schema: &Schema,
-) -> Result<Result<Nra, QueryFault>, Odd> {
+) -> Result<Result<Nra, QueryFault>, Odd>
+    ensures { IfOk result (λ read. IfOk read (λ tree. size tree ≤ 2 ^ 100)) }
+{
     let bytes = texts.bytes(alloc, row.member("query")?)?;
     if bytes.len() > MOST_BYTES {
         return Err(Odd::Form);
@@ -69,6 +88,7 @@ fn faulty(
 // The query's tree of the algebra.
 fn tree_of(alloc: Global, schema: &Schema, bytes: &[u8]) -> Result<Nra, QueryFault>
     requires { length bytes.now ≤ 65536 }
+    ensures { IfOk result (λ tree. size tree ≤ 2 ^ 100) }
 {
     let words = tokens_of(alloc, Table::Oql, bytes)?;
     let typed = read(alloc, schema, &words)?;
@@ -78,35 +98,73 @@ fn tree_of(alloc: Global, schema: &Schema, bytes: &[u8]) -> Result<Nra, QueryFau
     }
 }
 
-// What the row wants of the calls, and what they give.
-fn answered(
+// What the row wants of the calls on the stage's tree for one of the algebra, and what they give.
+fn at_stage(
+    alloc: Global,
+    schema: &Schema,
+    globals: Option<&Json>,
+    row: &mut Form,
+    stage: Stage,
+    tree: Nra,
+) -> Result<Compared, Odd>
+    requires { size tree ≤ 2 ^ 100 }
+{
+    match stage {
+        Stage::Algebra => in_algebra(alloc, schema, globals, row, &tree),
+        Stage::Calculus => in_calculus(alloc, schema, globals, row, tree),
+    }
+}
+
+// The same at the stage of the algebra.
+fn in_algebra(
     alloc: Global,
     schema: &Schema,
     globals: Option<&Json>,
     row: &mut Form,
     tree: &Nra,
 ) -> Result<Compared, Odd> {
+    let text = qc_nra::spell(alloc, tree)?;
+    answered(alloc, schema, globals, row, tree, text.as_str())
+}
+
+// The same at the stage of the calculus.
+fn in_calculus(
+    alloc: Global,
+    schema: &Schema,
+    globals: Option<&Json>,
+    row: &mut Form,
+    tree: Nra,
+) -> Result<Compared, Odd>
+    requires { size tree ≤ 2 ^ 100 }
+{
+    let tree = NraToNnrc.pass(alloc, schema, tree)?;
+    let text = qc_nnrc::spell(alloc, &tree)?;
+    answered(alloc, schema, globals, row, &tree, text.as_str())
+}
+
+// The same of a tree with its written form.
+fn answered<T: Lang>(
+    alloc: Global,
+    schema: &Schema,
+    globals: Option<&Json>,
+    row: &mut Form,
+    tree: &T,
+    text: &str,
+) -> Result<Compared, Odd> {
     let mut answers = Answers::of(alloc, row)?;
-    spelled(alloc, tree, &mut answers)?;
+    if answers.asks("spell") {
+        answers.add(alloc, "spell", word_tree(alloc, text)?)?;
+    }
     evaluated(alloc, schema, globals, tree, &mut answers)?;
     answers.compared(alloc)
 }
 
-// The tree's written form.
-fn spelled(alloc: Global, tree: &Nra, answers: &mut Answers) -> Result<(), Odd> {
-    if !answers.asks("spell") {
-        return Ok(());
-    }
-    let text = spell(alloc, tree)?;
-    answers.add(alloc, "spell", word_tree(alloc, text.as_str())?)
-}
-
 // The tree's outcome in the row's world.
-fn evaluated(
+fn evaluated<T: Lang>(
     alloc: Global,
     schema: &Schema,
     globals: Option<&Json>,
-    tree: &Nra,
+    tree: &T,
     answers: &mut Answers,
 ) -> Result<(), Odd> {
     if !answers.asks("eval") {

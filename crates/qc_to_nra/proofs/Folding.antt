@@ -1,7 +1,7 @@
 -- Items that are put before a tree, from the last one on.
 use Rattle.std.proofs.Common.{◌≡◌, List, [], ◌∷◌, ◌++◌, refl, ap}
 use Rattle.qc_nra.specs.declared.tree.Nra.{Nra}
-use Rattle.qc_to_nra.specs.inner.OqlForms.{folded}
+use Rattle.qc_oql_nra.specs.OqlForms.{folded}
 
 pub folded_last : {A : Type 0} (f : A → Nra → Nra) (xs : List A) (x : A) (a : Nra)
     → folded f (xs ++ x ∷ []) a ≡ folded f xs (f x a)

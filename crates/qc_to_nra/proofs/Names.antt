@@ -3,10 +3,10 @@ use Rattle.std.proofs.Common.{◌≡◌, ℕ, Bool, true, false, ◌||◌, List,
 use Rattle.std.specs.Str.{bytes_eq}
 use Rattle.qc_oql_tree.specs.declared.tree.Named.{Named}
 use Rattle.qc_oql_tree.specs.declared.tree.Oql.TheViews.{out-Named}
-use Rattle.qc_to_nra.specs.inner.OqlForms.{Scope, is_bound, with_sources}
-use Rattle.qc_to_nra.specs.inner.OqlTrees.{named_tree}
+use Rattle.qc_oql_nra.specs.OqlForms.{Scope, is_bound, with_sources}
+use Rattle.qc_oql_nra.specs.OqlTrees.{named_tree}
 use Rattle.qc_to_nra.specs.inner.Scopes.{is_source}
-use Rattle.qc_to_nra.proofs.OqlTreeForms.{named_name}
+use Rattle.qc_oql_nra.proofs.OqlTreeForms.{named_name}
 
 or_later : (a b c : Bool) → (a || (b || c)) ≡ ((b || a) || c)
 or_later true true c = refl

@@ -8,9 +8,9 @@ use Rattle.qc_nra.specs.declared.tree.Nra.TheVariants as nra
 use Rattle.qc_ops.specs.declared.op.Unary.TheVariants as one
 use Rattle.qc_oql_tree.specs.declared.tree.Named.{Named}
 use Rattle.qc_oql_tree.specs.declared.tree.Oql.TheViews.{out-Named}
-use Rattle.qc_to_nra.specs.inner.OqlForms.{NamedTranslation, Scope, at_row, joined_tree, rows_tree, with_sources}
-use Rattle.qc_to_nra.specs.inner.OqlTrees.{named_tree}
-use Rattle.qc_to_nra.proofs.OqlTreeForms.{named_name}
+use Rattle.qc_oql_nra.specs.OqlForms.{NamedTranslation, Scope, at_row, joined_tree, rows_tree, with_sources}
+use Rattle.qc_oql_nra.specs.OqlTrees.{named_tree}
+use Rattle.qc_oql_nra.proofs.OqlTreeForms.{named_name}
 
 with_last : (ts : List NamedTranslation) (t : NamedTranslation) (s : Scope)
     → with_sources (ts ++ t ∷ []) s ≡ t.0 ∷ with_sources ts s

@@ -2,8 +2,8 @@
 ghost use Rattle.std.specs.Prelude.{◌≡◌, ◌<◌, codes, cond, map, IfOk};
 ghost use Rattle.std.specs.String.{string_bytes};
 ghost use Rattle.qc_oql_tree.specs.SelectMeaning.{is_ascending};
-ghost use Rattle.qc_to_nra.specs.inner.OqlForms as forms;
-ghost use Rattle.qc_to_nra.specs.inner.OqlTrees.{key_tree};
+ghost use Rattle.qc_oql_nra.specs.OqlForms as forms;
+ghost use Rattle.qc_oql_nra.specs.OqlTrees.{key_tree};
 
 use crate::building::own_name;
 use qc_containers::{Memory, Name};
@@ -19,7 +19,7 @@ fn digit(is_first: bool) -> &'static str
 }
 
 // The digits of a number, the lowest first.
-#[tactic(auto, using(crate::proofs::Numerals::one_more, crate::proofs::Numerals::no_more))]
+#[tactic(auto, using(qc_oql_nra::proofs::Numerals::one_more, qc_oql_nra::proofs::Numerals::no_more))]
 fn digits(alloc: Global, number: usize) -> Result<String, Memory>
     ensures { IfOk result (λ made. string_bytes made ≡ forms.numeral number) }
 {
@@ -52,7 +52,7 @@ fn is_ascending(direction: Direction) -> bool
 }
 
 // The names of the keys, with their directions.
-#[tactic(auto, using(crate::proofs::OqlTreeForms::key_is))]
+#[tactic(auto, using(qc_oql_nra::proofs::OqlTreeForms::key_is))]
 pub(crate) fn names_of_keys(alloc: Global, keys: &[Key]) -> Result<Keys, Memory>
     ensures { IfOk result (λ made. made ≡ forms.key_names 0 (map (λ key. key.1) (map key_tree keys.now))) }
 {

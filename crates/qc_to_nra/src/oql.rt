@@ -1,6 +1,6 @@
 // From queries to the algebra.
 ghost use Rattle.std.specs.Prelude.{IsTrue};
-ghost use Rattle.qc_to_nra.specs.inner.HasNames.{are_names};
+ghost use Rattle.qc_oql_nra.specs.HasNames.{are_names};
 
 use crate::oql_queries::query_tree;
 use qc_containers::{Memory, Name};
@@ -24,7 +24,7 @@ impl Pass<TypedQuery, Nra> for OqlToNra {
 
     ghost grows = { Some 32 };
 
-    #[tactic(auto, using(crate::proofs::OqlAnswered::keeps_in))]
+    #[tactic(auto, using(qc_oql_nra::proofs::OqlAnswered::keeps_in))]
     fn pass(&self, alloc: Global, schema: &Schema, from: TypedQuery) -> Result<Nra, Memory> {
         named(schema.globals().as_slice());
         query_tree(alloc, &from.query)

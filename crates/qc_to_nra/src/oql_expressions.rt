@@ -7,10 +7,10 @@ ghost use Rattle.qc_oql_tree.specs.FormMeanings as meanings;
 ghost use Rattle.qc_oql_tree.specs.OperatorMeanings.{branding, division, is_divisor};
 ghost use Rattle.qc_oql_tree.specs.inner.Pairings.{on_one, pairing_of};
 ghost use Rattle.qc_ops.specs.declared.op.Unary.TheVariants as one;
-ghost use Rattle.qc_to_nra.specs.inner.HasNames.{filter_has_names, has_names, key_has_names, named_has_names};
-ghost use Rattle.qc_to_nra.specs.inner.HasNames.{order_has_names, part_names, select_has_names};
-ghost use Rattle.qc_to_nra.specs.inner.OqlForms as forms;
-ghost use Rattle.qc_to_nra.specs.inner.OqlTrees as trees;
+ghost use Rattle.qc_oql_nra.specs.HasNames.{filter_has_names, has_names, key_has_names, named_has_names};
+ghost use Rattle.qc_oql_nra.specs.HasNames.{order_has_names, part_names, select_has_names};
+ghost use Rattle.qc_oql_nra.specs.OqlForms as forms;
+ghost use Rattle.qc_oql_nra.specs.OqlTrees as trees;
 ghost use Rattle.qc_to_nra.specs.inner.Scopes.{names_of};
 
 use crate::building::{comp, conditional, either, map_over, name_of, select, unary};
@@ -31,7 +31,7 @@ use std::alloc::Global;
 
 // An expression.
 #[cycle(lowering)]
-#[tactic(auto, using(crate::proofs::NameForms::by_names, crate::proofs::OqlTreeForms::by_form))]
+#[tactic(auto, using(qc_oql_nra::proofs::NameForms::by_names, qc_oql_nra::proofs::OqlTreeForms::by_form))]
 pub(crate) fn tree_of(alloc: Global, scope: &Scope, of: &Oql) -> Result<Nra, Memory>
     requires { IsTrue (has_names of.now) }
     ensures { IfOk result (λ made. made ≡ trees.oql_tree of.now (names_of scope.now)) }
@@ -100,7 +100,7 @@ fn with_left(
 
 // A division by a literal.
 #[cycle(lowering)]
-#[tactic(auto, using(crate::proofs::NameForms::no_divisor))]
+#[tactic(auto, using(qc_oql_nra::proofs::NameForms::no_divisor))]
 fn of_division(
     alloc: Global,
     scope: &Scope,
@@ -240,7 +240,7 @@ fn constant_of(constant: Constant) -> Datum
 
 // The expression beside a name.
 #[cycle(lowering)]
-#[tactic(auto, using(crate::proofs::NameForms::by_names, crate::proofs::OqlTreeForms::named_is))]
+#[tactic(auto, using(qc_oql_nra::proofs::NameForms::by_names, qc_oql_nra::proofs::OqlTreeForms::named_is))]
 pub(crate) fn named_tree(alloc: Global, scope: &Scope, named: &Named) -> Result<Nra, Memory>
     requires { IsTrue (named_has_names named.now) }
     ensures { IfOk result (λ made. made ≡ (trees.named_tree named.now).1 (names_of scope.now)) }
@@ -250,7 +250,7 @@ pub(crate) fn named_tree(alloc: Global, scope: &Scope, named: &Named) -> Result<
 
 // A body with its name bound to the input.
 #[cycle(lowering)]
-#[tactic(auto, using(crate::proofs::NameForms::by_names, crate::proofs::OqlTreeForms::named_is))]
+#[tactic(auto, using(qc_oql_nra::proofs::NameForms::by_names, qc_oql_nra::proofs::OqlTreeForms::named_is))]
 fn bound(alloc: Global, scope: &Scope, body: &Named) -> Result<Nra, Memory>
     requires { IsTrue (named_has_names body.now) }
     ensures { IfOk result (λ made. made ≡ forms.bound_tree (trees.named_tree body.now) (names_of scope.now)) }
@@ -274,7 +274,7 @@ fn tested(alloc: Global, scope: &Scope, test: &Oql, name: &Chars) -> Result<Nra,
 
 // The record of the fields.
 #[cycle(lowering)]
-#[tactic(auto, using(crate::proofs::NameForms::by_names, crate::proofs::OqlTreeForms::named_is))]
+#[tactic(auto, using(qc_oql_nra::proofs::NameForms::by_names, qc_oql_nra::proofs::OqlTreeForms::named_is))]
 fn structured(alloc: Global, scope: &Scope, fields: &[Named]) -> Result<Nra, Memory>
     requires { IsTrue (all_true (map named_has_names fields.now)) }
     ensures { IfOk result (λ made. made ≡ forms.struct_tree (map trees.named_tree fields.now) (names_of scope.now)) }
@@ -293,7 +293,7 @@ fn structured(alloc: Global, scope: &Scope, fields: &[Named]) -> Result<Nra, Mem
 
 // The collection of the members.
 #[cycle(lowering)]
-#[tactic(auto, using(crate::proofs::NameForms::by_names))]
+#[tactic(auto, using(qc_oql_nra::proofs::NameForms::by_names))]
 fn collected(alloc: Global, scope: &Scope, members: &[Oql]) -> Result<Nra, Memory>
     requires { IsTrue (all_true (map has_names members.now)) }
     ensures { IfOk result (λ made. made ≡ forms.bag_tree (map trees.oql_tree members.now) (names_of scope.now)) }
@@ -311,7 +311,7 @@ fn collected(alloc: Global, scope: &Scope, members: &[Oql]) -> Result<Nra, Memor
 
 // What stands behind `select`.
 #[cycle(lowering)]
-#[tactic(auto, using(crate::proofs::NameForms::by_names, crate::proofs::OqlTreeForms::select_is))]
+#[tactic(auto, using(qc_oql_nra::proofs::NameForms::by_names, qc_oql_nra::proofs::OqlTreeForms::select_is))]
 fn selected(alloc: Global, scope: &Scope, select: &Select) -> Result<Nra, Memory>
     requires { IsTrue (select_has_names select.now) }
     ensures { IfOk result (λ made. made ≡ trees.part_tree select.now (names_of scope.now)) }
@@ -339,7 +339,7 @@ fn values_of(alloc: Global, scope: &Scope, value: &Oql, rows: Nra) -> Result<Nra
 
 // The rows that the sources make, of the one row that is the environment.
 #[cycle(lowering)]
-#[tactic(auto, using(crate::proofs::NameForms::by_names, crate::proofs::OqlTreeForms::named_is))]
+#[tactic(auto, using(qc_oql_nra::proofs::NameForms::by_names, qc_oql_nra::proofs::OqlTreeForms::named_is))]
 fn rows_of(alloc: Global, scope: &Scope, sources: &[Named]) -> Result<Nra, Memory>
     requires { IsTrue (all_true (map named_has_names sources.now)) }
     ensures { IfOk result (λ made. made ≡ forms.rows_tree (map trees.named_tree sources.now) (names_of scope.now)
@@ -356,7 +356,7 @@ fn rows_of(alloc: Global, scope: &Scope, sources: &[Named]) -> Result<Nra, Memor
 
 // The rows that the condition keeps, if there is one.
 #[cycle(lowering)]
-#[tactic(auto, using(crate::proofs::NameForms::by_names, crate::proofs::OqlTreeForms::filter_is))]
+#[tactic(auto, using(qc_oql_nra::proofs::NameForms::by_names, qc_oql_nra::proofs::OqlTreeForms::filter_is))]
 fn filtered(alloc: Global, scope: &Scope, filter: &Option<Filter>, rows: Nra) -> Result<Nra, Memory>
     requires { IsTrue (part_names (option_map filter_has_names filter.now)) }
     ensures { IfOk result
@@ -374,7 +374,7 @@ fn filtered(alloc: Global, scope: &Scope, filter: &Option<Filter>, rows: Nra) ->
 
 // The rows in order, if there are keys.
 #[cycle(lowering)]
-#[tactic(auto, using(crate::proofs::NameForms::by_names, crate::proofs::OqlTreeForms::order_is))]
+#[tactic(auto, using(qc_oql_nra::proofs::NameForms::by_names, qc_oql_nra::proofs::OqlTreeForms::order_is))]
 fn ordered(alloc: Global, scope: &Scope, order: &Option<Order>, rows: Nra) -> Result<Nra, Memory>
     requires { IsTrue (part_names (option_map order_has_names order.now)) }
     ensures { IfOk result
@@ -393,7 +393,7 @@ fn ordered(alloc: Global, scope: &Scope, order: &Option<Order>, rows: Nra) -> Re
 
 // The values of the keys on a row, each at its name.
 #[cycle(lowering)]
-#[tactic(auto, using(crate::proofs::NameForms::by_names, crate::proofs::OqlTreeForms::key_is))]
+#[tactic(auto, using(qc_oql_nra::proofs::NameForms::by_names, qc_oql_nra::proofs::OqlTreeForms::key_is))]
 fn fields_of_keys(alloc: Global, scope: &Scope, keys: &[Key]) -> Result<Vec<(Name, Nra)>, Memory>
     requires { IsTrue (all_true (map key_has_names keys.now)) }
     ensures { IfOk result

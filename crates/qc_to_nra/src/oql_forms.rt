@@ -4,7 +4,7 @@ ghost use Rattle.qc_containers.specs.Name.{is_name};
 ghost use Rattle.qc_data.specs.declared.data.Datum.TheVariants.{Coll, Rec};
 ghost use Rattle.qc_nra.specs.declared.tree.Nra.TheVariants as nra;
 ghost use Rattle.qc_ops.specs.declared.op.Unary.TheVariants as one;
-ghost use Rattle.qc_to_nra.specs.inner.OqlForms as forms;
+ghost use Rattle.qc_oql_nra.specs.OqlForms as forms;
 
 use crate::building::{
     binary, comp, dep_join, either, env_comp, map_over, name_of, own_name, unary,

@@ -8,8 +8,8 @@ ghost use Rattle.qc_nra.specs.Sizes.{size};
 ghost use Rattle.qc_oql_tree.specs.Meaning as meaning;
 ghost use Rattle.qc_oql_tree.specs.Sizes.{query_size};
 ghost use Rattle.qc_types.specs.Schemas.{WorldOf};
-ghost use Rattle.qc_to_nra.specs.inner.HasNames.{has_names, named_has_names, query_has_names};
-ghost use Rattle.qc_to_nra.specs.inner.OqlTrees as trees;
+ghost use Rattle.qc_oql_nra.specs.HasNames.{has_names, named_has_names, query_has_names};
+ghost use Rattle.qc_oql_nra.specs.OqlTrees as trees;
 ghost use Rattle.qc_to_nra.specs.inner.Scopes.{names_of};
 
 use crate::building::env_comp;
@@ -22,7 +22,7 @@ use qc_oql_tree::{Named, Oql, Query};
 use std::alloc::Global;
 
 // The tree for a query, which keeps its value in every mode and world and is at most 32 times as large.
-#[tactic(auto, using(crate::proofs::NameForms::by_names))]
+#[tactic(auto, using(qc_oql_nra::proofs::NameForms::by_names))]
 pub(crate) fn query_tree(alloc: Global, query: &Query) -> Result<Nra, Memory>
     requires { IsTrue (query_has_names query.now) }
     ensures same { IfOk result (λ made. made ≡ trees.query_tree query.now) }
@@ -34,7 +34,7 @@ pub(crate) fn query_tree(alloc: Global, query: &Query) -> Result<Nra, Memory>
 }
 
 // The expression with what is defined, each definition bound for the later ones.
-#[tactic(auto, using(crate::proofs::OqlTreeForms::named_name, crate::proofs::NameForms::by_names))]
+#[tactic(auto, using(qc_oql_nra::proofs::OqlTreeForms::named_name, qc_oql_nra::proofs::NameForms::by_names))]
 fn defined(alloc: Global, scope: &Scope, defines: &[Named], body: &Oql) -> Result<Nra, Memory>
     requires defines { IsTrue (all_true (map named_has_names defines.now)) }
     requires body { IsTrue (has_names body.now) }

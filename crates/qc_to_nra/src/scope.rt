@@ -1,6 +1,6 @@
 // Scopes: the names that are bound.
 ghost use Rattle.std.specs.Prelude.{◌≡◌};
-ghost use Rattle.qc_to_nra.specs.inner.OqlForms.{is_bound};
+ghost use Rattle.qc_oql_nra.specs.OqlForms.{is_bound};
 ghost use Rattle.qc_to_nra.specs.inner.Scopes.{is_source, names_of};
 
 use qc_containers::Chars;

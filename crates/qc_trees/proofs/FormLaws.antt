@@ -1,12 +1,10 @@
 -- What agrees between modes still does under the forms that all trees have.
 use Rattle.std.proofs.Common.{◌≡◌, Bool, true, false, cond, List, refl}
-use Rattle.qc_data.specs.Outcome.{Outcome, Halts, Stuck, each, alone, Agrees}
+use Rattle.qc_data.specs.Outcome.{Outcome, each, alone, Agrees}
 use Rattle.qc_data.specs.declared.data.Datum.{Datum}
-use Rattle.qc_data.specs.declared.data.Datum.TheOpen.{Datum-F}
-use Rattle.qc_data.specs.declared.data.Datum.TheViews.{out-Datum}
 use Rattle.qc_data.proofs.Outcomes.{agrees_same, agrees_then, agrees_gather}
 use Rattle.qc_ops.specs.Operands.{as_bool, bag}
-use Rattle.qc_trees.specs.Branches.{truth, side_at, by_side}
+use Rattle.qc_trees.specs.Branches.{truth}
 
 pub agrees_bag : (xs ys : Outcome (List Datum)) → Agrees xs ys → Agrees (bag xs) (bag ys)
 agrees_bag xs ys h = agrees_then xs ys _ _ h (λ zs. refl)
@@ -24,13 +22,3 @@ agrees_truth a b h = agrees_then a b as_bool as_bool h (λ v. agrees_same (as_bo
 pub agrees_choice : (t : Bool) (a b c d : Outcome Datum) → Agrees a c → Agrees b d → Agrees (cond t a b) (cond t c d)
 agrees_choice true a b c d h k = h
 agrees_choice false a b c d h k = k
-
-agrees_at : (f g h k : Datum → Outcome Datum) → ((x : Datum) → Agrees (f x) (h x)) → ((x : Datum) → Agrees (g x) (k x))
-    → (d : Datum-F Datum) → Agrees (side_at f g d) (side_at h k d)
-agrees_at f g h k p q (Datum-F.Left d) = p d
-agrees_at f g h k p q (Datum-F.Right d) = q d
-agrees_at f g h k p q _ = agrees_same {A = Datum} (Halts Stuck)
-
-pub agrees_side : (f g h k : Datum → Outcome Datum) → ((x : Datum) → Agrees (f x) (h x))
-    → ((x : Datum) → Agrees (g x) (k x)) → (d : Datum) → Agrees (by_side f g d) (by_side h k d)
-agrees_side f g h k p q d = agrees_at f g h k p q (out-Datum d)

@@ -22,8 +22,10 @@ use Rattle.qc_typing.specs.Typed.{HasType}
 use Rattle.qc_typing.proofs.Outcomes.{Holds, Typed, holds_then, holds_weaker, typed_after, typed_each, typed_map}
 use Rattle.qc_typing.proofs.Outcomes.{typed_then}
 use Rattle.qc_typing.proofs.Values.{Any, At, below_type, bool_holds, coll_layer, make_coll, nothing_bottom, opened}
-use Rattle.qc_trees.specs.Branches.{truth, side_at, by_side}
-use Rattle.qc_trees.specs.PartTypes.{members_bound, bound_by, sides_bound, sides_of, join_both, chosen_type}
+use Rattle.qc_trees.specs.Branches.{truth}
+use Rattle.qc_ops.specs.Sides.{side_at, by_side}
+use Rattle.qc_trees.specs.PartTypes.{join_both, chosen_type}
+use Rattle.qc_typing.specs.Kinds.{members_bound, bound_by, sides_bound, sides_of}
 use Rattle.qc_trees.proofs.ConstantsSound.{typed_if}
 
 module _ (c : Defs) (g : IsTrue (good_classes c)) (m : Mode) where

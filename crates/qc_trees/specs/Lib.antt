@@ -1,5 +1,4 @@
 pub mod Branches
-pub mod HeldOperands
 pub mod PartTypes
 pub mod ConstantTypes
 pub mod OperatorTexts

@@ -7,11 +7,11 @@ ghost use Rattle.qc_typing.specs.Kinds.{when};
 ghost use Rattle.qc_trees.specs.ConstantTypes.{constant_type, datum_type, exactly, join_all};
 ghost use Rattle.qc_trees.specs.Infers.{Infers};
 
-use crate::parts::{coll_of, either_of};
 use crate::untyped::{NoType, known};
 use qc_containers::{Memory, Name};
 use qc_data::{Datum, Fields, held};
 use qc_types::{Classes, Row, Ty, Width, conforms, join};
+use qc_typing::{coll_of, either_of};
 use std::alloc::Global;
 
 /// The type of a constant.

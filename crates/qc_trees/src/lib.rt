@@ -3,7 +3,6 @@
 #![tactic(auto)]
 
 mod constants;
-mod held;
 mod leaf_texts;
 mod operands;
 mod operator_texts;
@@ -11,9 +10,8 @@ mod parts;
 mod untyped;
 
 pub use constants::constant_type;
-pub use held::{Held, field_at};
 pub use leaf_texts::{open_unary, push_constant, push_global};
-pub use operands::{bool_of, global_of, items_of};
+pub use operands::{bool_of, field_of, global_of, items_of};
 pub use operator_texts::{binary_word, push, push_json, push_name, push_unary};
-pub use parts::{bound_by, branches, coll_of, either_of, global_type, member_of, sides_of};
+pub use parts::{branches, global_type, member_of};
 pub use untyped::{NoType, known};

@@ -1,12 +1,16 @@
 // Operands by their kind.
 ghost use Rattle.qc_data.specs.Kinds.{as_coll};
 ghost use Rattle.qc_data.specs.Outcome.{Gives, GivesRef};
+ghost use Rattle.qc_ops.specs.HeldOperands.{GivesHeld, datum_of};
 ghost use Rattle.qc_ops.specs.Operands.{as_bool, found};
+ghost use Rattle.qc_ops.specs.Records.{field};
 ghost use Rattle.qc_types.specs.Schemas.{global};
 
 use qc_containers::Name;
-use qc_data::{Datum, Halt, Items};
+use qc_data::{Datum, Halt, Items, copy};
+use qc_ops::Held;
 use qc_types::World;
+use std::alloc::Global;
 
 /// The truth value that the datum is; `Stuck` where it is none.
 pub fn bool_of(d: &Datum) -> Result<bool, Halt>
@@ -35,5 +39,28 @@ pub fn global_of<'a>(world: &'a World, name: &Name) -> Result<&'a Datum, Halt>
     match world.get(name.as_str()) {
         Some(value) => Ok(value),
         None => Err(Halt::Stuck),
+    }
+}
+
+// The value of a record at the name.
+fn field_at<'a>(name: &Name, d: &'a Datum) -> Result<&'a Datum, Halt>
+    ensures { GivesRef (field name.now d.now) result }
+{
+    match d {
+        Datum::Rec(fields) => match fields.get(name.as_str()) {
+            Some(value) => Ok(value),
+            None => Err(Halt::Stuck),
+        },
+        _ => Err(Halt::Stuck),
+    }
+}
+
+/// The value of a record at the name, lent where the record is; `Stuck` where it has none, or is no record.
+pub fn field_of<'a>(alloc: Global, name: &Name, owner: Held<'a>) -> Result<Held<'a>, Halt>
+    ensures { GivesHeld (field name.now (datum_of owner.entry)) result }
+{
+    match owner {
+        Held::Lent(owner) => Ok(Held::Lent(field_at(name, owner)?)),
+        Held::Made(owner) => Ok(Held::Made(copy(alloc, field_at(name, &owner)?)?)),
     }
 }

@@ -28,6 +28,16 @@ bag_at Ty-F.Bottom = Some (ty.Coll ty.Bottom)
 bag_at (Ty-F.Coll t) = Some (ty.Coll t)
 bag_at _ = None
 
+abbrev pub members_bound : Ty-F Ty → Option Ty
+members_bound Ty-F.Bottom = Some ty.Bottom
+members_bound (Ty-F.Coll t) = Some t
+members_bound _ = None
+
+abbrev pub sides_bound : Ty-F Ty → Option (Ty × Ty)
+sides_bound Ty-F.Bottom = Some (ty.Bottom, ty.Bottom)
+sides_bound (Ty-F.Either t u) = Some (t, u)
+sides_bound _ = None
+
 -- the type of no datum
 abbrev pub is_bottom : Ty → Bool
 is_bottom a = bottom_at (out-Ty a)
@@ -47,6 +57,14 @@ own_class a = class_at (out-Ty a)
 -- the least type of collections above it
 abbrev pub bag_above : Ty → Option Ty
 bag_above a = bag_at (out-Ty a)
+
+-- the type of the members of a collection, or of no datum
+abbrev pub bound_by : Ty → Option Ty
+bound_by t = members_bound (out-Ty t)
+
+-- the types of the contents of a left and of a right value, or of no datum
+abbrev pub sides_of : Ty → Option (Ty × Ty)
+sides_of t = sides_bound (out-Ty t)
 
 -- the type, where the test is true
 abbrev pub when : Bool → Ty → Option Ty

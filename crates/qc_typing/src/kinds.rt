@@ -3,7 +3,7 @@ ghost use Rattle.std.specs.Prelude.{◌≡◌, ◌&&◌, ◌||◌, IfOk, option_
 ghost use Rattle.std.specs.Option.{option_copied};
 ghost use Rattle.qc_types.specs.Types.{sub};
 ghost use Rattle.qc_types.specs.declared.ty.Ty.TheVariants as ty;
-ghost use Rattle.qc_typing.specs.Kinds.{own_class, is_bottom, members, record_parts, when};
+ghost use Rattle.qc_typing.specs.Kinds.{bound_by, is_bottom, members, own_class, record_parts, sides_of, when};
 ghost use Rattle.qc_typing.specs.FieldTypes.{is_atom};
 ghost use Rattle.qc_typing.specs.Tables.{both_below, maybe_int};
 
@@ -52,6 +52,30 @@ pub(crate) fn own_class(a: &Ty) -> Option<&Name>
     }
 }
 
+/// The type of the members of a collection, or of no datum.
+#[tactic(auto, using(crate::proofs::Layers::by_layer))]
+pub fn bound_by(t: &Ty) -> Option<&Ty>
+    ensures { option_copied result ≡ bound_by t.now }
+{
+    match t {
+        Ty::Bottom => Some(t),
+        Ty::Coll(member) => Some(member.get()),
+        _ => None,
+    }
+}
+
+/// The types of the contents of a left and of a right value, or of no datum.
+#[tactic(auto, using(crate::proofs::Layers::by_layer))]
+pub fn sides_of(t: &Ty) -> Option<(&Ty, &Ty)>
+    ensures { option_map (λ sides. (sides.0.now, sides.1.now)) result ≡ sides_of t.now }
+{
+    match t {
+        Ty::Bottom => Some((t, t)),
+        Ty::Either(left, right) => Some((left.get(), right.get())),
+        _ => None,
+    }
+}
+
 // The type, where the test is true.
 pub(crate) fn when(test: bool, t: Ty) -> Option<Ty>
     ensures { result ≡ when test t }
@@ -59,15 +83,15 @@ pub(crate) fn when(test: bool, t: Ty) -> Option<Ty>
     if test { Some(t) } else { None }
 }
 
-// The type of collections of members of the type.
-pub(crate) fn coll_of(alloc: Global, item: Ty) -> Result<Ty, Memory>
+/// The type of collections of members of the type.
+pub fn coll_of(alloc: Global, item: Ty) -> Result<Ty, Memory>
     ensures { IfOk result (λ made. made ≡ ty.Coll item) }
 {
     Ok(Ty::Coll(Boxed::of(alloc, item)?))
 }
 
-// The type of two sides.
-pub(crate) fn either_of(alloc: Global, left: Ty, right: Ty) -> Result<Ty, Memory>
+/// The type of two sides.
+pub fn either_of(alloc: Global, left: Ty, right: Ty) -> Result<Ty, Memory>
     ensures { IfOk result (λ made. made ≡ ty.Either left right) }
 {
     let left = Boxed::of(alloc, left)?;
@@ -81,8 +105,8 @@ pub(crate) fn maybe_int(alloc: Global) -> Result<Ty, Memory>
     either_of(alloc, Ty::Int, Ty::Unit)
 }
 
-// Whether it is below integers, texts or truth values.
-pub(crate) fn is_atom(classes: &Classes, t: &Ty) -> bool
+/// Whether it is below integers, texts or truth values.
+pub fn is_atom(classes: &Classes, t: &Ty) -> bool
     ensures { result ≡ is_atom classes.now t.now }
 {
     subtype(classes, t, &Ty::Int)

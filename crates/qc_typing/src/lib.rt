@@ -13,4 +13,5 @@ mod unary;
 
 pub use binary::type2;
 pub use fault::TypeFault;
+pub use kinds::{bound_by, coll_of, either_of, is_atom, sides_of};
 pub use unary::type1;

@@ -5,9 +5,9 @@ use Rattle.qc_oql_tree.specs.declared.tree.Named.{Named}
 use Rattle.qc_oql_tree.specs.declared.tree.Oql.TheViews.{out-Named}
 use Rattle.qc_to_nra.specs.declared.scope.Scope.{Scope}
 use Rattle.qc_to_nra.specs.declared.scope.Scope.TheVariants as scope
-use Rattle.qc_to_nra.specs.inner.OqlForms as forms
-use Rattle.qc_to_nra.specs.inner.OqlForms.{with_sources}
-use Rattle.qc_to_nra.specs.inner.OqlTrees.{named_tree}
+use Rattle.qc_oql_nra.specs.OqlForms as forms
+use Rattle.qc_oql_nra.specs.OqlForms.{with_sources}
+use Rattle.qc_oql_nra.specs.OqlTrees.{named_tree}
 
 -- the names of a scope, the newest first
 abbrev pub names_of : Scope → forms.Scope

@@ -2,7 +2,7 @@ use Rattle.std.proofs.Common.{◌≡◌, rules, arith}
 use Rattle.std.proofs.lemmas.Grind.{common_steps}
 use Rattle.qc_data.specs.Outcome.{Value, Halts, Stuck, bits64}
 use Rattle.qc_data.specs.declared.data.Datum.{the_lemmas as datum_lemmas}
-use Rattle.qc_trees.specs.Branches.{by_side}
+use Rattle.qc_ops.specs.Sides.{by_side}
 use Rattle.qc_nnrc.specs.declared.tree.Nnrc.{the_lemmas}
 use Rattle.qc_nnrc.specs.declared.tree.Nnrc.TheVariants as tree
 use Rattle.qc_nnrc.specs.Meaning.{bound_to, nnrc}

@@ -1,7 +1,7 @@
 use Rattle.std.proofs.Common.{◌≡◌}
 use Rattle.std.specs.String.{string_bytes}
-use Rattle.qc_to_nra.specs.inner.OqlForms.{numeral}
-use Rattle.qc_to_nra.proofs.Numerals.{one_more}
+use Rattle.qc_oql_nra.specs.OqlForms.{numeral}
+use Rattle.qc_oql_nra.proofs.Numerals.{one_more}
 use Rattle.qc_to_nra.proofs.key_names.digits.Goals as goal
 
 pub loop-rest-preserved : goal.loop-rest-preserved

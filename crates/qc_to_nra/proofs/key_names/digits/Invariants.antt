@@ -1,6 +1,6 @@
 use Rattle.std.proofs.Common.{◌≡◌, ◌++◌}
 use Rattle.std.specs.String.{string_bytes}
-use Rattle.qc_to_nra.specs.inner.OqlForms.{numeral}
+use Rattle.qc_oql_nra.specs.OqlForms.{numeral}
 use Rattle.qc_to_nra.proofs.key_names.digits.Given as goal
 
 abbrev pub invariant-loop-rest : goal.invariant-loop-rest

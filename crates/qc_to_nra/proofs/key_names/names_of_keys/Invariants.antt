@@ -1,6 +1,6 @@
 use Rattle.std.proofs.Common.{◌≡◌, ◌++◌, drop, map}
-use Rattle.qc_to_nra.specs.inner.OqlForms.{key_names}
-use Rattle.qc_to_nra.specs.inner.OqlTrees.{key_tree}
+use Rattle.qc_oql_nra.specs.OqlForms.{key_names}
+use Rattle.qc_oql_nra.specs.OqlTrees.{key_tree}
 use Rattle.qc_to_nra.proofs.key_names.names_of_keys.Given as goal
 
 abbrev pub invariant-loop-at : goal.invariant-loop-at

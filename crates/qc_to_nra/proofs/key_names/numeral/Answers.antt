@@ -1,6 +1,6 @@
 use Rattle.std.proofs.Common.{◌≡◌, ◌∙◌, IsTrue, sym, subst}
 use Rattle.qc_containers.specs.Name.{is_name}
-use Rattle.qc_to_nra.proofs.Numerals.{numeral_name}
+use Rattle.qc_oql_nra.proofs.Numerals.{numeral_name}
 use Rattle.qc_to_nra.proofs.key_names.numeral.Goals as goal
 
 pub own_name-requires : goal.own_name-requires

@@ -1,5 +1,5 @@
 use Rattle.std.proofs.Common.{◌≡◌, drop}
-use Rattle.qc_to_nra.specs.inner.HasNames.{are_names}
+use Rattle.qc_oql_nra.specs.HasNames.{are_names}
 use Rattle.qc_to_nra.proofs.oql.named.Given as goal
 
 -- what is left decides

@@ -1,10 +1,10 @@
 use Rattle.std.proofs.Common.{◌≡◌, arith, map, rules, take}
 use Rattle.std.proofs.lemmas.Grind.{common_steps}
-use Rattle.qc_to_nra.specs.inner.OqlForms.{with_sources}
-use Rattle.qc_to_nra.specs.inner.OqlTrees.{named_tree}
+use Rattle.qc_oql_nra.specs.OqlForms.{with_sources}
+use Rattle.qc_oql_nra.specs.OqlTrees.{named_tree}
 use Rattle.qc_to_nra.specs.inner.Scopes.{names_of}
-use Rattle.qc_to_nra.proofs.NameForms.{and_second}
-use Rattle.qc_to_nra.proofs.OqlTreeForms.{named_is}
+use Rattle.qc_oql_nra.proofs.NameForms.{and_second}
+use Rattle.qc_oql_nra.proofs.OqlTreeForms.{named_is}
 use Rattle.qc_to_nra.proofs.SourceRows.{rows_more}
 use Rattle.qc_to_nra.proofs.oql_expressions.+lowering.Goals as goal
 

@@ -2,9 +2,9 @@ use Rattle.std.proofs.Common.{◌≡◌, ◌++◌, IsTrue, drop, map, take}
 use Rattle.qc_data.specs.Facts.{all_true}
 use Rattle.qc_nra.specs.declared.tree.Nra.TheVariants as nra
 use Rattle.qc_ops.specs.declared.op.Unary.TheVariants as one
-use Rattle.qc_to_nra.specs.inner.HasNames.{has_names, key_has_names, named_has_names}
-use Rattle.qc_to_nra.specs.inner.OqlForms.{key_fields, rows_tree, with_sources}
-use Rattle.qc_to_nra.specs.inner.OqlTrees.{key_tree, named_tree, oql_tree}
+use Rattle.qc_oql_nra.specs.HasNames.{has_names, key_has_names, named_has_names}
+use Rattle.qc_oql_nra.specs.OqlForms.{key_fields, rows_tree, with_sources}
+use Rattle.qc_oql_nra.specs.OqlTrees.{key_tree, named_tree, oql_tree}
 use Rattle.qc_to_nra.specs.inner.Scopes.{names_of}
 use Rattle.qc_to_nra.proofs.oql_expressions.+lowering.Given as goal
 

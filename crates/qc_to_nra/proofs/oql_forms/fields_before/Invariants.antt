@@ -1,5 +1,5 @@
 use Rattle.std.proofs.Common.{◌≡◌, vec_len}
-use Rattle.qc_to_nra.specs.inner.OqlForms.{field_before, folded}
+use Rattle.qc_oql_nra.specs.OqlForms.{field_before, folded}
 use Rattle.qc_to_nra.proofs.oql_forms.fields_before.Given as goal
 
 abbrev pub invariant-loop-label : goal.invariant-loop-label

@@ -1,7 +1,7 @@
 use Rattle.std.proofs.Common.{◌≡◌, rules}
 use Rattle.std.specs.Prelude.{IfOk}
-use Rattle.qc_to_nra.specs.inner.OqlTrees.{query_tree}
-use Rattle.qc_to_nra.proofs.OqlAnswered.{answered, sized}
+use Rattle.qc_oql_nra.specs.OqlTrees.{query_tree}
+use Rattle.qc_oql_nra.proofs.OqlAnswered.{answered, sized}
 use Rattle.qc_to_nra.proofs.oql_queries.query_tree.Goals as goal
 
 pub returns-clause-keeps : goal.returns-clause-keeps

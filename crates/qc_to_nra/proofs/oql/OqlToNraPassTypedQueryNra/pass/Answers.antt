@@ -1,6 +1,6 @@
 use Rattle.std.proofs.Common.{◌≡◌, IsTrue, rules}
-use Rattle.qc_to_nra.specs.inner.HasNames.{are_names}
-use Rattle.qc_to_nra.proofs.OqlNames.{typed_names}
+use Rattle.qc_oql_nra.specs.HasNames.{are_names}
+use Rattle.qc_oql_nra.proofs.OqlNames.{typed_names}
 use Rattle.qc_to_nra.proofs.oql.OqlToNraPassTypedQueryNra.pass.Goals as goal
 
 pub query_tree-requires : goal.query_tree-requires

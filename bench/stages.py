@@ -1,0 +1,219 @@
+#!/usr/bin/env python3
+"""Times queries at the stages of the pipeline: evaluating one beside the stage before over many rows, and translating queries of about
+1,000 tokens.
+
+It lies outside the gate: run it by hand after `rt ci`. It runs a program of its own, which it makes in a folder for temporary files
+over copies of this checkout's crates; where `rt ci` has proved these, that takes some minutes. The program times itself, so that reading counts
+for nothing; the least of three runs is told. A line that is past what is wanted of it ends in `TOO LONG`, and the status is then 1.
+A machine that does other work makes the times longer.
+"""
+import subprocess
+import sys
+
+from building import made
+
+# The most times as long as the stage before that a stage may take.
+MOST_TIMES = 1.3
+# The stages, each evaluated beside the one before it.
+STAGES = ["query", "nraenv", "nnrc"]
+# The most milliseconds that a translation may take.
+MOST_MILLISECONDS = 10
+# The most times as long as half of its text that a translation may take, where it takes a tenth of a millisecond.
+MOST_GROWTH = 3
+
+PROGRAM = """//! Translates the query `q` in the schema `schema`; where a word says so, also evaluates it at each stage over the input
+//! `input`. It prints a line of microseconds for each.
+#![tactic(auto)]
+ghost use Rattle.std.specs.Prelude.{◌≤◌, length};
+
+use qc_io::{FileShelf, Shelf};
+use qc_lang::{Lang, Pass};
+use qc_lex::Table;
+use qc_lower::NraToNnrc;
+use qc_oql::read;
+use qc_schema::{read_input, read_schema};
+use qc_source::tokens_of;
+use qc_to_nra::OqlToNra;
+use qc_types::{Schema, World};
+use std::alloc::Global;
+use std::env;
+use std::time::Instant;
+
+fn main(rt: HostRuntime) {
+    let alloc = rt.alloc();
+    let mut shelf = FileShelf::new(&rt);
+    let mut bytes = Vec::new(alloc);
+    let _ = shelf.fetch("schema", 1 << 20, &mut bytes);
+    let Ok(schema) = read_schema(alloc, &bytes) else {
+        return;
+    };
+    let _ = shelf.fetch("input", 1 << 24, &mut bytes);
+    let Ok(world) = read_input(alloc, &schema, &bytes) else {
+        return;
+    };
+    let _ = shelf.fetch("q", 65_536, &mut bytes);
+    if bytes.len() <= 65_536 {
+        run(&rt, &schema, &world, &bytes);
+    }
+}
+
+fn run(rt: &HostRuntime, schema: &Schema, world: &World, bytes: &[u8])
+    requires { length bytes.now ≤ 65536 }
+{
+    let words = match env::args(rt) {
+        Ok(words) => words.count(),
+        Err(_) => 0,
+    };
+    let Ok(tokens) = tokens_of(rt.alloc(), Table::Oql, bytes) else {
+        return;
+    };
+    let Ok(typed) = read(rt.alloc(), schema, &tokens) else {
+        return;
+    };
+    let evaluates = words >= 2;
+    if evaluates {
+        evaluate(rt, "query", &typed, world);
+    }
+    let start = Instant::now(rt);
+    let Ok(tree) = OqlToNra.pass(rt.alloc(), schema, typed) else {
+        return;
+    };
+    tell(rt, "translated", start);
+    if evaluates {
+        evaluate(rt, "nraenv", &tree, world);
+        let Ok(tree) = NraToNnrc.pass(rt.alloc(), schema, tree) else {
+            return;
+        };
+        evaluate(rt, "nnrc", &tree, world);
+    }
+}
+
+fn evaluate<L: Lang>(rt: &HostRuntime, stage: &str, tree: &L, world: &World) {
+    let start = Instant::now(rt);
+    if tree.eval(rt.alloc(), world).is_ok() {
+        tell(rt, stage, start);
+    }
+}
+
+// A line of the microseconds since the start.
+fn tell(rt: &HostRuntime, what: &str, start: std::io::Result<Instant>) {
+    let Ok(start) = start else {
+        return;
+    };
+    let Ok(passed) = start.elapsed(rt) else {
+        return;
+    };
+    let micros = passed.as_micros();
+    let _ = println!(rt; "{what} {micros}");
+}
+"""
+
+EMPTY = '{"version":1,"classes":[],"globals":{}}'
+STAFF = '{"version":1,"classes":[],"globals":{"emp":{"bag":{"record":{"age":"int","dept":"text","name":"text"}}}}}'
+ROWS = 100000
+OVER_ROWS = [
+    ("sort by two keys", "select x.name from x in emp order by x.age desc, x.name"),
+    ("filter and sort", "select x.name from x in emp where x.age > 30 order by x.age desc, x.name"),
+    ("filter alone", "select x.name from x in emp where x.age > 30"),
+]
+
+
+def nested_selects(depth):
+    """A select in the source of a select, and so on."""
+    return "select x from x in (" * depth + "bag(1)" + ")" * depth
+
+
+def doubled(count):
+    """Definitions, each of which doubles the type of the one before it."""
+    parts = ["1"] + ["b%d" % i for i in range(count - 1)]
+    return "".join("define b%d as struct(x: %s, y: %s); " % (i, part, part) for i, part in enumerate(parts)) + "1"
+
+
+def chained(count):
+    """Definitions, each of which names the one before it."""
+    parts = ["1"] + ["d%d + 1" % i for i in range(count - 1)]
+    return "".join("define d%d as %s; " % (i, part) for i, part in enumerate(parts)) + "d%d" % (count - 1)
+
+
+def listed(text, count):
+    return ", ".join(text % ((i,) * text.count("%d")) for i in range(count))
+
+
+# A shape, the text of a query of it by a number, and the number at which it has about 1,000 tokens.
+SHAPES = [
+    ("brackets", lambda n: "(" * n + "1" + ")" * n, 499),
+    ("negations", lambda n: "-" * n + "1", 999),
+    ("a sum", lambda n: " + ".join(["1"] * n), 500),
+    ("nested selects", nested_selects, 141),
+    ("a struct", lambda n: "struct(" + listed("f%d: %d", n) + ")", 249),
+    ("a bag", lambda n: "bag(" + listed("%d", n) + ")", 498),
+    ("a select of sources", lambda n: "select 1 from " + listed("x%d in bag()", n), 165),
+    ("a select by keys", lambda n: "select x from x in bag(1) order by " + listed("x + %d", n), 247),
+    ("definitions that double their type", doubled, 71),
+    ("definitions in a chain", chained, 124),
+    ("quantifiers in one another", lambda n: "".join("exists x%d in bag() : " % i for i in range(n)) + "true", 142),
+    ("matches in one another", lambda n: "match(left(1), left x: x, right y: " * n + "0" + ")" * n, 62),
+]
+
+
+def write(folder, schema, text, query):
+    for name, content in (("schema", schema), ("input", text), ("q", query)):
+        (folder / name).write_text(content)
+
+
+def least(words, folder, wanted):
+    """The least microseconds of three runs, by what they are for."""
+    best = {}
+    for _ in range(3):
+        out = subprocess.run(words, cwd=folder, check=True, capture_output=True, text=True).stdout
+        told = {line.split()[0]: int(line.split()[1]) for line in out.splitlines()}
+        if set(told) != set(wanted):
+            sys.exit("bench: the program told only of %s" % sorted(told))
+        best = {what: min(best.get(what, micros), micros) for what, micros in told.items()}
+    return best
+
+
+def employees(count):
+    rows = ('{"name":"Employee %d","age":%d,"dept":"d%d"}' % (i * 7919 % count, i % 90, i % 7) for i in range(count))
+    return '{"emp":[' + ",".join(rows) + "]}"
+
+
+def over_rows(program, folder):
+    """Whether each stage takes little longer than the one before it over the same rows."""
+    text = employees(ROWS)
+    good = True
+    for title, query in OVER_ROWS:
+        write(folder, STAFF, text, query)
+        micros = least([program, "all"], folder, STAGES + ["translated"])
+        print("%s, %d rows: the query %.3f s" % (title, ROWS, micros["query"] / 1e6), flush=True)
+        for before, stage in zip(STAGES, STAGES[1:]):
+            times = micros[stage] / max(micros[before], 1)
+            holds = times <= MOST_TIMES
+            good = good and holds
+            print("  %s %.3f s, %.2f times %s%s" % (stage, micros[stage] / 1e6, times, before, "" if holds else " TOO LONG"), flush=True)
+    return good
+
+
+def translations(program, folder):
+    """Whether each translation is short, and grows with the text."""
+    good = True
+    for title, make, count in SHAPES:
+        write(folder, EMPTY, "{}", make(count // 2))
+        half = least([program], folder, ["translated"])["translated"]
+        write(folder, EMPTY, "{}", make(count))
+        whole = least([program], folder, ["translated"])["translated"]
+        holds = whole <= 1000 * MOST_MILLISECONDS and (whole < 100 or whole <= MOST_GROWTH * max(half, 1))
+        good = good and holds
+        print("translating %s, %d: %.2f ms, half of it %.2f ms%s" % (title, count, whole / 1000, half / 1000, "" if holds else " TOO LONG"), flush=True)
+    return good
+
+
+def main():
+    with made("bench_stages", PROGRAM, ["qc_io", "qc_to_nra", "qc_lower"]) as (program, folder):
+        good = over_rows(program, folder)
+        good = translations(program, folder) and good
+    sys.exit(0 if good else 1)
+
+
+if __name__ == "__main__":
+    main()

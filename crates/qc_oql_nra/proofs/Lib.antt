@@ -1,0 +1,17 @@
+pub mod Environments
+pub mod KeptLaws
+pub mod NameForms
+pub mod NraForms
+pub mod NraSizes
+pub mod Numerals
+pub mod OqlAnswered
+pub mod OqlFormsKept
+pub mod OqlInduction
+pub mod OqlKept
+pub mod OqlNames
+pub mod OqlOperators
+pub mod OqlOrder
+pub mod OqlSelect
+pub mod OqlSelected
+pub mod OqlSizes
+pub mod OqlTreeForms

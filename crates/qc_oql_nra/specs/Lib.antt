@@ -1,0 +1,3 @@
+pub mod OqlForms
+pub mod OqlTrees
+pub mod HasNames
