@@ -15,7 +15,7 @@ from building import made
 # The most times as long as the stage before that a stage may take.
 MOST_TIMES = 1.3
 # The stages, each evaluated beside the one before it.
-STAGES = ["query", "nraenv", "nnrc"]
+STAGES = ["query", "nraenv", "nnrc", "nnrs", "imp"]
 # The most milliseconds that a translation may take.
 MOST_MILLISECONDS = 10
 # The most times as long as half of its text that a translation may take, where it takes a tenth of a millisecond.
@@ -33,6 +33,8 @@ use qc_lower::NraToNnrc;
 use qc_oql::read;
 use qc_schema::{read_input, read_schema};
 use qc_source::tokens_of;
+use qc_to_imp::NnrsToImp;
+use qc_to_nnrs::NnrcToNnrs;
 use qc_to_nra::OqlToNra;
 use qc_types::{Schema, World};
 use std::alloc::Global;
@@ -85,6 +87,14 @@ fn run(rt: &HostRuntime, schema: &Schema, world: &World, bytes: &[u8])
             return;
         };
         evaluate(rt, "nnrc", &tree, world);
+        let Ok(tree) = NnrcToNnrs.pass(rt.alloc(), schema, tree) else {
+            return;
+        };
+        evaluate(rt, "nnrs", &tree, world);
+        let Ok(tree) = NnrsToImp.pass(rt.alloc(), schema, tree) else {
+            return;
+        };
+        evaluate(rt, "imp", &tree, world);
     }
 }
 
@@ -209,7 +219,7 @@ def translations(program, folder):
 
 
 def main():
-    with made("bench_stages", PROGRAM, ["qc_io", "qc_to_nra", "qc_lower"]) as (program, folder):
+    with made("bench_stages", PROGRAM, ["qc_io", "qc_to_nra", "qc_lower", "qc_to_nnrs", "qc_to_imp"]) as (program, folder):
         good = over_rows(program, folder)
         good = translations(program, folder) and good
     sys.exit(0 if good else 1)

@@ -3,6 +3,5 @@
 
 mod algebra;
 mod algebra_trees;
-mod building;
 
 pub use algebra::NraToNnrc;

@@ -1,4 +1,3 @@
 pub mod Places
 pub mod Sides
-pub mod Sound
 pub mod TreeForms

@@ -5,4 +5,3 @@ pub mod Free
 pub mod Sizes
 pub mod Laws
 pub mod Spelling
-pub mod Typing

@@ -1,16 +1,12 @@
 -- The written form of trees. Parts stand one space apart, in parentheses.
-use Rattle.std.specs.Prelude.{ℕ, List, ◌++◌, codes, decimal}
+use Rattle.std.specs.Prelude.{ℕ, List, ◌++◌, codes}
 use Rattle.qc_data.specs.Encoding.{enc}
 use Rattle.qc_schema.specs.Writing.{text_of}
 use Rattle.qc_trees.specs.OperatorTexts.{name_text, unary_text, binary_text, opened, next, with_one, with_two}
-use Rattle.qc_trees.specs.OperatorTexts.{with_three}
+use Rattle.qc_trees.specs.OperatorTexts.{variable_text, with_three}
 use Rattle.qc_nnrc.specs.declared.tree.Nnrc.{Nnrc}
 use Rattle.qc_nnrc.specs.declared.tree.Nnrc.TheOpen.{Nnrc-F}
 use Rattle.qc_nnrc.specs.declared.tree.Nnrc.TheFolds.{fold-Nnrc}
-
--- a variable: v and its number in decimal
-abbrev pub variable_text : ℕ → List ℕ
-variable_text x = codes "v" ++ decimal x
 
 -- a form, by the texts of its parts
 abbrev pub form_text : Nnrc-F (List ℕ) → List ℕ

@@ -6,17 +6,17 @@ ghost use Rattle.qc_nnrc.specs.inner.Chains.{pairs_of};
 
 use crate::bindings::Bindings;
 
-// Bindings, the newest first.
+/// Bindings, the newest first.
 #[derive(Drop)]
-pub(crate) enum Chain<'a, T> {
-    // Those of the whole.
+pub enum Chain<'a, T> {
+    /// Those of the whole.
     Whole(&'a Bindings<T>),
-    // A variable and what it stands for.
+    /// A variable and what it stands for.
     Bind(u128, &'a T, &'a Chain<'a, T>),
 }
 
-// What a variable stands for: its newest binding.
-pub(crate) fn binding<'a, T>(chain: &'a Chain<'a, T>, variable: u128) -> Option<&'a T>
+/// What a variable stands for: its newest binding, and `None` exactly where it has none.
+pub fn binding<'a, T>(chain: &'a Chain<'a, T>, variable: u128) -> Option<&'a T>
     ensures { option_copied result ≡ look variable (pairs_of chain.now) }
 {
     match chain {

@@ -1,20 +1,19 @@
-//! The calculus, in which programs bind variables: its trees, what they mean, their types and their written form.
+//! The calculus, in which programs bind variables: its trees, what they mean, their evaluator and their written form.
 #![tactic(auto)]
 
 mod bindings;
 mod chain;
 mod counting;
 mod evaluating;
-mod inferring;
 mod language;
 mod spelling;
 mod tree;
 mod variables;
 
 pub use bindings::{Bindings, Frame, Scope};
+pub use chain::{Chain, binding};
 pub use counting::nodes;
 pub use evaluating::eval_at;
-pub use inferring::infer;
 pub use spelling::spell;
 pub use tree::{Nnrc, Var};
 pub use variables::free_in;

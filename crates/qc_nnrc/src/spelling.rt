@@ -5,9 +5,10 @@ ghost use Rattle.qc_nnrc.specs.Spelling as spec;
 ghost use Rattle.qc_trees.specs.OperatorTexts.{next, opened};
 
 use crate::tree::Nnrc;
-use itoa::Buffer;
 use qc_containers::{Chars, Memory};
-use qc_trees::{binary_word, open_unary, push, push_constant, push_global};
+use qc_trees::{
+    binary_word, open_unary, push, push_bound, push_constant, push_global, push_variable,
+};
 use std::alloc::Global;
 
 /// The written form of the tree.
@@ -59,25 +60,6 @@ fn push_tree(alloc: Global, e: &Nnrc, text: &mut String) -> Result<(), Memory>
             push_last(alloc, c.get(), text)
         }
     }
-}
-
-// Puts a variable.
-fn push_variable(text: &mut String, x: u128) -> Result<(), Memory>
-    ensures { OnOk result (string_bytes text.new ≡ string_bytes text.old ++ spec.variable_text x) }
-{
-    let mut buffer = Buffer::new();
-    push(text, "v")?;
-    push(text, buffer.format(x))
-}
-
-// Puts a text, and a variable behind a space.
-fn push_bound(text: &mut String, before: &str, x: u128) -> Result<(), Memory>
-    ensures { OnOk result
-        (string_bytes text.new ≡ string_bytes text.old ++ (before.now ++ next (spec.variable_text x))) }
-{
-    push(text, before)?;
-    push(text, " ")?;
-    push_variable(text, x)
 }
 
 // Puts a head and the first part behind it.

@@ -1,4 +1,2 @@
 pub mod Adding
-pub mod FormsSound
 pub mod Mapped
-pub mod Sound

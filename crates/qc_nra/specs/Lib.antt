@@ -4,5 +4,3 @@ pub mod Meaning
 pub mod Sizes
 pub mod Laws
 pub mod Spelling
-pub mod FormTypes
-pub mod Typing

@@ -3,16 +3,15 @@ ghost use Rattle.std.specs.Prelude.{◌≤◌, ◌^◌};
 ghost use Rattle.qc_nra.specs.Sizes.{size};
 
 use crate::algebra_tree::tree;
-use crate::calls::{counted, spelled};
-use crate::parts::MOST_NODES;
 use qc_data::{Datum, Json};
 use qc_lang::{Lang, Pass};
 use qc_lower::NraToNnrc;
 use qc_nnrc::Nnrc;
-use qc_nra::{Context, Nra, eval_at, infer, nodes, spell};
+use qc_nra::{Nra, eval_at, nodes, spell};
+use qc_nra_check::{Context, infer};
 use qc_rows::{
-    Answers, Compared, Form, Odd, Texts, datum, datum_or_none, outcome_tree, schema, ty, type_tree,
-    world,
+    Answers, Compared, Form, MOST_NODES, Odd, Texts, counted, datum, datum_or_none, outcome_tree,
+    schema, spelled, ty, type_tree, world,
 };
 use qc_types::{Row, Schema, Ty, Width};
 use std::alloc::Global;

@@ -2,13 +2,11 @@
 ghost use Rattle.std.specs.Prelude.{◌≡◌, ◌+◌, ◌≤◌, IfOk};
 ghost use Rattle.qc_nra.specs.Sizes.{size};
 
-use crate::operator::{binary, named};
-use crate::parts::{operator_of, take};
 use qc_containers::Boxed;
 use qc_data::{Json, Jsons};
 use qc_nra::Nra;
 use qc_ops::Binary;
-use qc_rows::{Odd, datum, word};
+use qc_rows::{Odd, binary, datum, named, operator_of, take_node, word};
 use std::alloc::Global;
 
 // A form of two parts.
@@ -51,7 +49,7 @@ fn form(alloc: Global, items: &Jsons, room: &mut u64) -> Result<Nra, Odd>
 fn worded(alloc: Global, word: &str, items: &Jsons, room: &mut u64) -> Result<Nra, Odd>
     ensures { IfOk result (λ made. size made + room.new ≤ room.old) }
 {
-    take(room)?;
+    take_node(room)?;
     match (pair_of(word), items.as_slice()) {
         (Some(pair), [_, a, b]) => {
             let a = part(alloc, a, room)?;

@@ -2,14 +2,14 @@
 ghost use Rattle.std.specs.Prelude.{◌≤◌, ◌^◌};
 ghost use Rattle.qc_nnrc.specs.Sizes.{size};
 
-use crate::bindings::{frame, scope, variable};
+use crate::bindings::{frame, scope};
 use crate::calculus_tree::tree;
-use crate::calls::{counted, spelled};
-use crate::parts::MOST_NODES;
 use qc_data::{Json, Jsons};
-use qc_nnrc::{Nnrc, eval_at, free_in, infer, nodes, spell};
+use qc_nnrc::{Nnrc, eval_at, free_in, nodes, spell};
+use qc_nnrc_check::infer;
 use qc_rows::{
-    Answers, Compared, Form, Odd, Texts, integer, items, outcome_tree, schema, type_tree, world,
+    Answers, Compared, Form, MOST_NODES, Odd, Texts, counted, integer, items, outcome_tree, schema,
+    spelled, type_tree, variable, world,
 };
 use qc_types::Schema;
 use std::alloc::Global;

@@ -2,13 +2,10 @@
 ghost use Rattle.std.specs.Prelude.{◌+◌, ◌≤◌, IfOk};
 ghost use Rattle.qc_nnrc.specs.Sizes.{size};
 
-use crate::bindings::variable;
-use crate::operator::{binary, named};
-use crate::parts::{operator_of, take};
 use qc_containers::Boxed;
 use qc_data::{Json, Jsons};
 use qc_nnrc::Nnrc;
-use qc_rows::{Odd, datum, word};
+use qc_rows::{Odd, binary, datum, named, operator_of, take_node, variable, word};
 use std::alloc::Global;
 
 /// The tree that the array describes. It takes a node of the room for each node, so that it has no more of them.
@@ -37,7 +34,7 @@ fn form(alloc: Global, items: &Jsons, room: &mut u64) -> Result<Nnrc, Odd>
 fn worded(alloc: Global, word: &str, items: &Jsons, room: &mut u64) -> Result<Nnrc, Odd>
     ensures { IfOk result (λ made. size made + room.new ≤ room.old) }
 {
-    take(room)?;
+    take_node(room)?;
     match word {
         "var" | "const" | "global" => leaf(alloc, word, items.as_slice()),
         "let" | "for" => binder(alloc, word, items, room),

@@ -6,16 +6,12 @@ mod algebra_tree;
 mod bindings;
 mod calculus;
 mod calculus_tree;
-mod calls;
-mod operator;
-mod parts;
 
-use crate::operator::{binary, parameters, unary};
 use qc_data::{Datum, Halt, Json, enc};
 use qc_ops::{Binary, Unary, apply1, apply2};
 use qc_rows::{
-    Compared, Form, Odd, Rows, Texts, datum, fault_text, good_classes, items, pair, tree_text, ty,
-    type_or_none,
+    Compared, Form, Odd, Rows, Texts, binary, datum, fault_text, good_classes, items, pair,
+    parameters, tree_text, ty, type_or_none, unary,
 };
 use qc_types::Classes;
 use qc_typing::{type1, type2};

@@ -1,5 +1,9 @@
 // A query as far as a stage, and its outcome there.
-ghost use Rattle.std.specs.Prelude.{◌≤◌, ◌^◌, length, IfOk};
+ghost use Rattle.std.specs.Prelude.{◌≤◌, ◌^◌, length, IfOk, IsTrue};
+ghost use Rattle.qc_nnrc.specs.Free.{IsClosed};
+ghost use Rattle.qc_nnrc.specs.Sizes as calculus;
+ghost use Rattle.qc_nnrs.specs.Sizes as statements;
+ghost use Rattle.qc_nnrs.specs.WellFormed.{well_formed};
 ghost use Rattle.qc_nra.specs.Sizes.{size};
 
 use qc_containers::Memory;
@@ -7,12 +11,16 @@ use qc_data::Json;
 use qc_lang::{Lang, Pass};
 use qc_lex::Table;
 use qc_lower::NraToNnrc;
+use qc_nnrc::Nnrc;
+use qc_nnrs::Nnrs;
 use qc_nra::Nra;
 use qc_oql::read;
 use qc_rows::{
     Answers, Compared, Form, Odd, Texts, fault_text, outcome_tree, schema, word_tree, world,
 };
 use qc_source::{QueryFault, tokens_of};
+use qc_to_imp::NnrsToImp;
+use qc_to_nnrs::NnrcToNnrs;
 use qc_to_nra::OqlToNra;
 use qc_types::Schema;
 use std::alloc::Global;
@@ -25,6 +33,8 @@ const MOST_BYTES: usize = 65_536;
 enum Stage {
     Algebra,
     Calculus,
+    Statements,
+    Programs,
 }
 
 /// The row's query as far as the row's stage, of which each call that the row names is made; or why there is none.
@@ -39,6 +49,8 @@ fn stage_of(name: &str) -> Result<Stage, Odd> {
     match name {
         "nraenv" => Ok(Stage::Algebra),
         "nnrc" => Ok(Stage::Calculus),
+        "nnrs" => Ok(Stage::Statements),
+        "imp" => Ok(Stage::Programs),
         _ => Err(Odd::Form),
     }
 }
@@ -65,7 +77,7 @@ fn translated(
     row: &mut Form,
     schema: &Schema,
 ) -> Result<Result<Nra, QueryFault>, Odd>
-    ensures { IfOk result (λ read. IfOk read (λ tree. size tree ≤ 2 ^ 100)) }
+    ensures { IfOk result (λ read. IfOk read (λ tree. size tree ≤ 2 ^ 80)) }
 {
     let bytes = texts.bytes(alloc, row.member("query")?)?;
     if bytes.len() > MOST_BYTES {
@@ -88,7 +100,7 @@ fn faulty(
 // The query's tree of the algebra.
 fn tree_of(alloc: Global, schema: &Schema, bytes: &[u8]) -> Result<Nra, QueryFault>
     requires { length bytes.now ≤ 65536 }
-    ensures { IfOk result (λ tree. size tree ≤ 2 ^ 100) }
+    ensures { IfOk result (λ tree. size tree ≤ 2 ^ 80) }
 {
     let words = tokens_of(alloc, Table::Oql, bytes)?;
     let typed = read(alloc, schema, &words)?;
@@ -107,11 +119,13 @@ fn at_stage(
     stage: Stage,
     tree: Nra,
 ) -> Result<Compared, Odd>
-    requires { size tree ≤ 2 ^ 100 }
+    requires { size tree ≤ 2 ^ 80 }
 {
     match stage {
         Stage::Algebra => in_algebra(alloc, schema, globals, row, &tree),
         Stage::Calculus => in_calculus(alloc, schema, globals, row, tree),
+        Stage::Statements => in_statements(alloc, schema, globals, row, tree),
+        Stage::Programs => in_programs(alloc, schema, globals, row, tree),
     }
 }
 
@@ -135,11 +149,61 @@ fn in_calculus(
     row: &mut Form,
     tree: Nra,
 ) -> Result<Compared, Odd>
-    requires { size tree ≤ 2 ^ 100 }
+    requires { size tree ≤ 2 ^ 80 }
 {
-    let tree = NraToNnrc.pass(alloc, schema, tree)?;
+    let tree = calculus_of(alloc, schema, tree)?;
     let text = qc_nnrc::spell(alloc, &tree)?;
     answered(alloc, schema, globals, row, &tree, text.as_str())
+}
+
+// The same at the stage of statements.
+fn in_statements(
+    alloc: Global,
+    schema: &Schema,
+    globals: Option<&Json>,
+    row: &mut Form,
+    tree: Nra,
+) -> Result<Compared, Odd>
+    requires { size tree ≤ 2 ^ 80 }
+{
+    let tree = statements_of(alloc, schema, tree)?;
+    let text = qc_nnrs::spell(alloc, &tree)?;
+    answered(alloc, schema, globals, row, &tree, text.as_str())
+}
+
+// The same at the stage of imperative programs.
+fn in_programs(
+    alloc: Global,
+    schema: &Schema,
+    globals: Option<&Json>,
+    row: &mut Form,
+    tree: Nra,
+) -> Result<Compared, Odd>
+    requires { size tree ≤ 2 ^ 80 }
+{
+    let tree = statements_of(alloc, schema, tree)?;
+    let tree = NnrsToImp.pass(alloc, schema, tree)?;
+    let text = qc_imp::spell(alloc, &tree)?;
+    answered(alloc, schema, globals, row, &tree, text.as_str())
+}
+
+// The tree of the calculus for one of the algebra.
+fn calculus_of(alloc: Global, schema: &Schema, tree: Nra) -> Result<Nnrc, Memory>
+    requires { size tree ≤ 2 ^ 80 }
+    ensures closed { IfOk result (λ made. IsClosed made) }
+    ensures small { IfOk result (λ made. calculus.size made ≤ 2 ^ 90) }
+{
+    NraToNnrc.pass(alloc, schema, tree)
+}
+
+// The program of statements for a tree of the algebra.
+fn statements_of(alloc: Global, schema: &Schema, tree: Nra) -> Result<Nnrs, Memory>
+    requires { size tree ≤ 2 ^ 80 }
+    ensures good { IfOk result (λ made. IsTrue (well_formed made)) }
+    ensures small { IfOk result (λ made. statements.size made ≤ 2 ^ 100) }
+{
+    let tree = calculus_of(alloc, schema, tree)?;
+    NnrcToNnrs.pass(alloc, schema, tree)
 }
 
 // The same of a tree with its written form.

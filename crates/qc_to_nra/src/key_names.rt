@@ -5,7 +5,7 @@ ghost use Rattle.qc_oql_tree.specs.SelectMeaning.{is_ascending};
 ghost use Rattle.qc_oql_nra.specs.OqlForms as forms;
 ghost use Rattle.qc_oql_nra.specs.OqlTrees.{key_tree};
 
-use crate::building::own_name;
+use crate::spelled_names::own_name;
 use qc_containers::{Memory, Name};
 use qc_ops::Keys;
 use qc_oql_tree::{Direction, Key};

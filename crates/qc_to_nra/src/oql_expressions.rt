@@ -13,13 +13,13 @@ ghost use Rattle.qc_oql_nra.specs.OqlForms as forms;
 ghost use Rattle.qc_oql_nra.specs.OqlTrees as trees;
 ghost use Rattle.qc_to_nra.specs.inner.Scopes.{names_of};
 
-use crate::building::{comp, conditional, either, map_over, name_of, select, unary};
 use crate::key_names::{names_of_keys, numeral};
 use crate::oql_forms::{
     at_row, bag_of, decided, distinct_if, joined, of_one, of_two, record_of, sorted_by, under,
 };
 use crate::scope::{Scope, is_bound};
-use qc_containers::{Chars, Memory, Name};
+use crate::spelled_names::name_of;
+use qc_containers::{Boxed, Chars, Memory, Name};
 use qc_data::Datum;
 use qc_nra::Nra;
 use qc_ops::{Divisor, Unary as OnOne};
@@ -45,7 +45,7 @@ pub(crate) fn tree_of(alloc: Global, scope: &Scope, of: &Oql) -> Result<Nra, Mem
         Oql::Bag(_, members) => collected(alloc, scope, members.as_slice()),
         Oql::Unary(_, operator, a) => of_operand(alloc, scope, *operator, a.get()),
         Oql::Binary(_, operator, a, b) => {
-            let left = tree_of(alloc, scope, a.get())?;
+            let left = part_of(alloc, scope, a.get())?;
             with_left(alloc, scope, b.get(), *operator, left)
         }
         Oql::Divide(_, operator, a, k) => of_division(alloc, scope, *operator, a.get(), *k),
@@ -58,8 +58,8 @@ pub(crate) fn tree_of(alloc: Global, scope: &Scope, of: &Oql) -> Result<Nra, Mem
             matched(alloc, scope, a.get(), sides)
         }
         Oql::If(_, test, yes, no) => {
-            let test = tree_of(alloc, scope, test.get())?;
-            let yes = tree_of(alloc, scope, yes.get())?;
+            let test = part_of(alloc, scope, test.get())?;
+            let yes = part_of(alloc, scope, yes.get())?;
             last_branch(alloc, scope, no.get(), test, yes)
         }
         Oql::Quantified(_, quantifier, source, test) => {
@@ -70,6 +70,16 @@ pub(crate) fn tree_of(alloc: Global, scope: &Scope, of: &Oql) -> Result<Nra, Mem
     }
 }
 
+// The same in a box. While others are made, trees are held in boxes.
+#[cycle(lowering)]
+fn part_of(alloc: Global, scope: &Scope, of: &Oql) -> Result<Boxed<Nra>, Memory>
+    requires { IsTrue (has_names of.now) }
+    ensures { IfOk result (λ made. made ≡ trees.oql_tree of.now (names_of scope.now)) }
+{
+    let tree = tree_of(alloc, scope, of)?;
+    Boxed::of(alloc, tree)
+}
+
 // An operator of one operand.
 #[cycle(lowering)]
 fn of_operand(alloc: Global, scope: &Scope, operator: Unary, a: &Oql) -> Result<Nra, Memory>
@@ -77,7 +87,7 @@ fn of_operand(alloc: Global, scope: &Scope, operator: Unary, a: &Oql) -> Result<
     ensures { IfOk result
         (λ made. made ≡ forms.one_tree (on_one operator) (trees.oql_tree a.now (names_of scope.now))) }
 {
-    let a = tree_of(alloc, scope, a)?;
+    let a = part_of(alloc, scope, a)?;
     of_one(alloc, on_one(operator), a)
 }
 
@@ -88,13 +98,13 @@ fn with_left(
     scope: &Scope,
     b: &Oql,
     operator: Binary,
-    left: Nra,
+    left: Boxed<Nra>,
 ) -> Result<Nra, Memory>
     requires { IsTrue (has_names b.now) }
     ensures { IfOk result
         (λ made. made ≡ forms.two_tree (pairing_of operator) left (trees.oql_tree b.now (names_of scope.now))) }
 {
-    let right = tree_of(alloc, scope, b)?;
+    let right = part_of(alloc, scope, b)?;
     of_two(alloc, pairing_of(operator), left, right)
 }
 
@@ -116,8 +126,8 @@ fn of_division(
     let Some(divisor) = Divisor::of(k) else {
         unreachable!();
     };
-    let a = tree_of(alloc, scope, a)?;
-    unary(alloc, division(operator, divisor), a)
+    let a = part_of(alloc, scope, a)?;
+    Ok(Nra::Unary(division(operator, divisor), a))
 }
 
 // A text against a pattern.
@@ -128,8 +138,8 @@ fn of_like(alloc: Global, scope: &Scope, a: &Oql, pattern: &Chars) -> Result<Nra
         (λ made. made ≡ nra.Unary (one.Like pattern.now) (trees.oql_tree a.now (names_of scope.now))) }
 {
     let pattern = pattern.copy(alloc)?;
-    let a = tree_of(alloc, scope, a)?;
-    unary(alloc, OnOne::Like(pattern), a)
+    let a = part_of(alloc, scope, a)?;
+    Ok(Nra::Unary(OnOne::Like(pattern), a))
 }
 
 // A field of a record.
@@ -141,8 +151,8 @@ fn of_dot(alloc: Global, scope: &Scope, a: &Oql, label: &Chars) -> Result<Nra, M
         (λ made. made ≡ nra.Unary (one.Dot label.now) (trees.oql_tree a.now (names_of scope.now))) }
 {
     let label = name_of(alloc, label)?;
-    let a = tree_of(alloc, scope, a)?;
-    unary(alloc, OnOne::Dot(label), a)
+    let a = part_of(alloc, scope, a)?;
+    Ok(Nra::Unary(OnOne::Dot(label), a))
 }
 
 // A function of a class.
@@ -160,39 +170,50 @@ fn of_class(
         (λ made. made ≡ nra.Unary (branding operator class.now) (trees.oql_tree a.now (names_of scope.now))) }
 {
     let class = name_of(alloc, class)?;
-    let a = tree_of(alloc, scope, a)?;
-    unary(alloc, branding(operator, class), a)
+    let a = part_of(alloc, scope, a)?;
+    Ok(Nra::Unary(branding(operator, class), a))
 }
 
 // A choice by the side of the input, with the body for right values.
 #[cycle(lowering)]
-fn with_right(alloc: Global, scope: &Scope, body: &Named, left: Nra) -> Result<Nra, Memory>
+fn with_right(
+    alloc: Global,
+    scope: &Scope,
+    body: &Named,
+    left: Boxed<Nra>,
+) -> Result<Boxed<Nra>, Memory>
     requires { IsTrue (named_has_names body.now) }
     ensures { IfOk result
         (λ made. made ≡ nra.Either left (forms.bound_tree (trees.named_tree body.now) (names_of scope.now))) }
 {
     let right = bound(alloc, scope, body)?;
-    either(alloc, left, right)
+    Boxed::of(alloc, Nra::Either(left, right))
 }
 
 // A choice by the side of an operand.
 #[cycle(lowering)]
-fn matched(alloc: Global, scope: &Scope, a: &Oql, sides: Nra) -> Result<Nra, Memory>
+fn matched(alloc: Global, scope: &Scope, a: &Oql, sides: Boxed<Nra>) -> Result<Nra, Memory>
     requires { IsTrue (has_names a.now) }
     ensures { IfOk result (λ made. made ≡ nra.Comp sides (trees.oql_tree a.now (names_of scope.now))) }
 {
-    let a = tree_of(alloc, scope, a)?;
-    comp(alloc, sides, a)
+    let a = part_of(alloc, scope, a)?;
+    Ok(Nra::Comp(sides, a))
 }
 
 // A condition with its branches, of which the first is there.
 #[cycle(lowering)]
-fn last_branch(alloc: Global, scope: &Scope, no: &Oql, test: Nra, yes: Nra) -> Result<Nra, Memory>
+fn last_branch(
+    alloc: Global,
+    scope: &Scope,
+    no: &Oql,
+    test: Boxed<Nra>,
+    yes: Boxed<Nra>,
+) -> Result<Nra, Memory>
     requires { IsTrue (has_names no.now) }
     ensures { IfOk result (λ made. made ≡ nra.If test yes (trees.oql_tree no.now (names_of scope.now))) }
 {
-    let no = tree_of(alloc, scope, no)?;
-    conditional(alloc, test, yes, no)
+    let no = part_of(alloc, scope, no)?;
+    Ok(Nra::If(test, yes, no))
 }
 
 // A quantifier, by the tree for its condition on a member.
@@ -202,14 +223,14 @@ fn quantified(
     scope: &Scope,
     source: &Named,
     quantifier: Quantifier,
-    holds: Nra,
+    holds: Boxed<Nra>,
 ) -> Result<Nra, Memory>
     requires { IsTrue (named_has_names source.now) }
     ensures { IfOk result (λ made. made
         ≡ forms.decided_tree quantifier (nra.Map holds ((trees.named_tree source.now).1 (names_of scope.now)))) }
 {
-    let members = named_tree(alloc, scope, source)?;
-    let truths = map_over(alloc, holds, members)?;
+    let members = named_part(alloc, scope, source)?;
+    let truths = Boxed::of(alloc, Nra::Map(holds, members))?;
     decided(alloc, quantifier, truths)
 }
 
@@ -221,7 +242,8 @@ fn name_tree(alloc: Global, scope: &Scope, name: &Chars) -> Result<Nra, Memory>
     let bound = is_bound(scope, name);
     let name = name_of(alloc, name)?;
     if bound {
-        unary(alloc, OnOne::Dot(name), Nra::Env)
+        let env = Boxed::of(alloc, Nra::Env)?;
+        Ok(Nra::Unary(OnOne::Dot(name), env))
     } else {
         Ok(Nra::Global(name))
     }
@@ -241,34 +263,34 @@ fn constant_of(constant: Constant) -> Datum
 // The expression beside a name.
 #[cycle(lowering)]
 #[tactic(auto, using(qc_oql_nra::proofs::NameForms::by_names, qc_oql_nra::proofs::OqlTreeForms::named_is))]
-pub(crate) fn named_tree(alloc: Global, scope: &Scope, named: &Named) -> Result<Nra, Memory>
+pub(crate) fn named_part(alloc: Global, scope: &Scope, named: &Named) -> Result<Boxed<Nra>, Memory>
     requires { IsTrue (named_has_names named.now) }
     ensures { IfOk result (λ made. made ≡ (trees.named_tree named.now).1 (names_of scope.now)) }
 {
-    tree_of(alloc, scope, &named.of)
+    part_of(alloc, scope, &named.of)
 }
 
 // A body with its name bound to the input.
 #[cycle(lowering)]
 #[tactic(auto, using(qc_oql_nra::proofs::NameForms::by_names, qc_oql_nra::proofs::OqlTreeForms::named_is))]
-fn bound(alloc: Global, scope: &Scope, body: &Named) -> Result<Nra, Memory>
+fn bound(alloc: Global, scope: &Scope, body: &Named) -> Result<Boxed<Nra>, Memory>
     requires { IsTrue (named_has_names body.now) }
     ensures { IfOk result (λ made. made ≡ forms.bound_tree (trees.named_tree body.now) (names_of scope.now)) }
 {
     let inner = Scope::Bind(&body.name, &*scope);
-    let a = tree_of(alloc, &inner, &body.of)?;
+    let a = part_of(alloc, &inner, &body.of)?;
     under(alloc, &body.name, a)
 }
 
 // A condition with a name bound to the input.
 #[cycle(lowering)]
-fn tested(alloc: Global, scope: &Scope, test: &Oql, name: &Chars) -> Result<Nra, Memory>
+fn tested(alloc: Global, scope: &Scope, test: &Oql, name: &Chars) -> Result<Boxed<Nra>, Memory>
     requires test { IsTrue (has_names test.now) }
     requires name { IsTrue (is_name name.now) }
     ensures { IfOk result (λ made. made ≡ forms.bound_tree (name.now, trees.oql_tree test.now) (names_of scope.now)) }
 {
     let inner = Scope::Bind(&*name, &*scope);
-    let a = tree_of(alloc, &inner, test)?;
+    let a = part_of(alloc, &inner, test)?;
     under(alloc, name, a)
 }
 
@@ -282,7 +304,7 @@ fn structured(alloc: Global, scope: &Scope, fields: &[Named]) -> Result<Nra, Mem
     let mut made = Vec::new(alloc);
     for field in fields {
         let label = name_of(alloc, &field.name)?;
-        let value = tree_of(alloc, scope, &field.of)?;
+        let value = part_of(alloc, scope, &field.of)?;
         match made.push((label, value)) {
             Ok(()) => {}
             Err(_) => return Err(Memory),
@@ -300,7 +322,7 @@ fn collected(alloc: Global, scope: &Scope, members: &[Oql]) -> Result<Nra, Memor
 {
     let mut made = Vec::new(alloc);
     for member in members {
-        let value = tree_of(alloc, scope, member)?;
+        let value = part_of(alloc, scope, member)?;
         match made.push(value) {
             Ok(()) => {}
             Err(_) => return Err(Memory),
@@ -327,28 +349,29 @@ fn selected(alloc: Global, scope: &Scope, select: &Select) -> Result<Nra, Memory
 
 // The value on each row.
 #[cycle(lowering)]
-fn values_of(alloc: Global, scope: &Scope, value: &Oql, rows: Nra) -> Result<Nra, Memory>
+fn values_of(alloc: Global, scope: &Scope, value: &Oql, rows: Boxed<Nra>) -> Result<Nra, Memory>
     requires { IsTrue (has_names value.now) }
     ensures { IfOk result
         (λ made. made ≡ nra.Map (forms.at_row (trees.oql_tree value.now (names_of scope.now))) rows) }
 {
-    let value = tree_of(alloc, scope, value)?;
+    let value = part_of(alloc, scope, value)?;
     let value = at_row(alloc, value)?;
-    map_over(alloc, value, rows)
+    Ok(Nra::Map(value, rows))
 }
 
 // The rows that the sources make, of the one row that is the environment.
 #[cycle(lowering)]
 #[tactic(auto, using(qc_oql_nra::proofs::NameForms::by_names, qc_oql_nra::proofs::OqlTreeForms::named_is))]
-fn rows_of(alloc: Global, scope: &Scope, sources: &[Named]) -> Result<Nra, Memory>
+fn rows_of(alloc: Global, scope: &Scope, sources: &[Named]) -> Result<Boxed<Nra>, Memory>
     requires { IsTrue (all_true (map named_has_names sources.now)) }
     ensures { IfOk result (λ made. made ≡ forms.rows_tree (map trees.named_tree sources.now) (names_of scope.now)
         (nra.Unary one.Single nra.Env)) }
 {
-    let mut rows = unary(alloc, OnOne::Single, Nra::Env)?;
+    let env = Boxed::of(alloc, Nra::Env)?;
+    let mut rows = Boxed::of(alloc, Nra::Unary(OnOne::Single, env))?;
     for (at, source) in sources.iter().enumerate() {
         let inner = Scope::Sources(&sources[..at], &*scope);
-        let members = tree_of(alloc, &inner, &source.of)?;
+        let members = part_of(alloc, &inner, &source.of)?;
         rows = joined(alloc, &source.name, members, rows)?;
     }
     Ok(rows)
@@ -357,7 +380,12 @@ fn rows_of(alloc: Global, scope: &Scope, sources: &[Named]) -> Result<Nra, Memor
 // The rows that the condition keeps, if there is one.
 #[cycle(lowering)]
 #[tactic(auto, using(qc_oql_nra::proofs::NameForms::by_names, qc_oql_nra::proofs::OqlTreeForms::filter_is))]
-fn filtered(alloc: Global, scope: &Scope, filter: &Option<Filter>, rows: Nra) -> Result<Nra, Memory>
+fn filtered(
+    alloc: Global,
+    scope: &Scope,
+    filter: &Option<Filter>,
+    rows: Boxed<Nra>,
+) -> Result<Boxed<Nra>, Memory>
     requires { IsTrue (part_names (option_map filter_has_names filter.now)) }
     ensures { IfOk result
         (λ made. made ≡ forms.filtered_tree (option_map trees.filter_tree filter.now) (names_of scope.now) rows) }
@@ -365,9 +393,9 @@ fn filtered(alloc: Global, scope: &Scope, filter: &Option<Filter>, rows: Nra) ->
     match filter {
         None => Ok(rows),
         Some(filter) => {
-            let test = tree_of(alloc, scope, &filter.test)?;
+            let test = part_of(alloc, scope, &filter.test)?;
             let test = at_row(alloc, test)?;
-            select(alloc, test, rows)
+            Boxed::of(alloc, Nra::Select(test, rows))
         }
     }
 }
@@ -375,7 +403,12 @@ fn filtered(alloc: Global, scope: &Scope, filter: &Option<Filter>, rows: Nra) ->
 // The rows in order, if there are keys.
 #[cycle(lowering)]
 #[tactic(auto, using(qc_oql_nra::proofs::NameForms::by_names, qc_oql_nra::proofs::OqlTreeForms::order_is))]
-fn ordered(alloc: Global, scope: &Scope, order: &Option<Order>, rows: Nra) -> Result<Nra, Memory>
+fn ordered(
+    alloc: Global,
+    scope: &Scope,
+    order: &Option<Order>,
+    rows: Boxed<Nra>,
+) -> Result<Boxed<Nra>, Memory>
     requires { IsTrue (part_names (option_map order_has_names order.now)) }
     ensures { IfOk result
         (λ made. made ≡ forms.ordered_tree (option_map trees.order_tree order.now) (names_of scope.now) rows) }
@@ -394,7 +427,11 @@ fn ordered(alloc: Global, scope: &Scope, order: &Option<Order>, rows: Nra) -> Re
 // The values of the keys on a row, each at its name.
 #[cycle(lowering)]
 #[tactic(auto, using(qc_oql_nra::proofs::NameForms::by_names, qc_oql_nra::proofs::OqlTreeForms::key_is))]
-fn fields_of_keys(alloc: Global, scope: &Scope, keys: &[Key]) -> Result<Vec<(Name, Nra)>, Memory>
+fn fields_of_keys(
+    alloc: Global,
+    scope: &Scope,
+    keys: &[Key],
+) -> Result<Vec<(Name, Boxed<Nra>)>, Memory>
     requires { IsTrue (all_true (map key_has_names keys.now)) }
     ensures { IfOk result
         (λ made. made.items ≡ forms.key_fields 0 (map trees.key_tree keys.now) (names_of scope.now)) }
@@ -402,7 +439,7 @@ fn fields_of_keys(alloc: Global, scope: &Scope, keys: &[Key]) -> Result<Vec<(Nam
     let mut made = Vec::new(alloc);
     for (at, key) in keys.iter().enumerate() {
         let name = numeral(alloc, at + 1)?;
-        let value = tree_of(alloc, scope, &key.of)?;
+        let value = part_of(alloc, scope, &key.of)?;
         let value = at_row(alloc, value)?;
         match made.push((name, value)) {
             Ok(()) => {}

@@ -12,11 +12,10 @@ ghost use Rattle.qc_oql_nra.specs.HasNames.{has_names, named_has_names, query_ha
 ghost use Rattle.qc_oql_nra.specs.OqlTrees as trees;
 ghost use Rattle.qc_to_nra.specs.inner.Scopes.{names_of};
 
-use crate::building::env_comp;
-use crate::oql_expressions::{named_tree, tree_of};
+use crate::oql_expressions::{named_part, tree_of};
 use crate::oql_forms::binding;
 use crate::scope::Scope;
-use qc_containers::Memory;
+use qc_containers::{Boxed, Memory};
 use qc_nra::Nra;
 use qc_oql_tree::{Named, Oql, Query};
 use std::alloc::Global;
@@ -44,11 +43,12 @@ fn defined(alloc: Global, scope: &Scope, defines: &[Named], body: &Oql) -> Resul
     match defines {
         [] => tree_of(alloc, scope, body),
         [first, rest @ ..] => {
-            let value = named_tree(alloc, scope, first)?;
+            let value = named_part(alloc, scope, first)?;
             let bound = binding(alloc, &first.name, value)?;
             let inner = Scope::Bind(&first.name, &*scope);
             let rest = defined(alloc, &inner, rest, body)?;
-            env_comp(alloc, rest, bound)
+            let rest = Boxed::of(alloc, rest)?;
+            Ok(Nra::EnvComp(rest, bound))
         }
     }
 }

@@ -19,6 +19,7 @@ pub agrees_truth : (a b : Outcome Datum) → Agrees a b → Agrees (truth a) (tr
 unfolding truth
 agrees_truth a b h = agrees_then a b as_bool as_bool h (λ v. agrees_same (as_bool v))
 
-pub agrees_choice : (t : Bool) (a b c d : Outcome Datum) → Agrees a c → Agrees b d → Agrees (cond t a b) (cond t c d)
+pub agrees_choice : {A : Type 0} (t : Bool) (a b c d : Outcome A) → Agrees a c → Agrees b d
+    → Agrees (cond t a b) (cond t c d)
 agrees_choice true a b c d h k = h
 agrees_choice false a b c d h k = k

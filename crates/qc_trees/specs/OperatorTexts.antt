@@ -1,5 +1,5 @@
 -- The written form of names, of operators and of forms. Parts stand one space apart, in parentheses.
-use Rattle.std.specs.Prelude.{ℕ, Bool, false, ◌&&◌, ◌||◌, ◌==◌, cond, List, [], ◌∷◌, ◌++◌, codes}
+use Rattle.std.specs.Prelude.{ℕ, Bool, false, ◌&&◌, ◌||◌, ◌==◌, cond, List, [], ◌∷◌, ◌++◌, codes, decimal}
 use Rattle.std.specs.Char.{is_ascii_alphabetic, is_ascii_alphanumeric}
 use Rattle.std.specs.List.{list_all}
 use Rattle.qc_data.specs.declared.data.Json.TheVariants.{Int, Text}
@@ -27,6 +27,10 @@ is_word (b ∷ bs) = begins_word b && list_all in_word bs
 -- a name that is a word as it stands, and any other as a JSON text
 abbrev pub name_text : List ℕ → List ℕ
 name_text name = cond (is_word name) name (text_of (Text name))
+
+-- a variable: v and its number in decimal
+abbrev pub variable_text : ℕ → List ℕ
+variable_text x = codes "v" ++ decimal x
 
 -- names, each behind a space
 abbrev pub after_spaces : List (List ℕ) → List ℕ

@@ -1,0 +1,2 @@
+pub mod FormsFit
+pub mod Stores

@@ -1,0 +1,3 @@
+pub mod Classes
+pub mod Logging
+pub mod Taking

@@ -1,0 +1,131 @@
+-- What programs of statements mean, by mode and world. A statement reads what variables stand for, and gives what it
+-- writes, in order. The first outcome that is no value decides.
+use Rattle.std.specs.Prelude.{ℕ, ◌==◌, cond, List, [], ◌∷◌, ◌++◌, Option, Some, None}
+use Rattle.qc_data.specs.Kinds.{as_coll}
+use Rattle.qc_data.specs.Outcome.{Mode, Outcome, Value, Halts, Stuck, and_then, gather}
+use Rattle.qc_data.specs.declared.data.Datum.{Datum}
+use Rattle.qc_data.specs.declared.data.Datum.TheVariants.{Coll}
+use Rattle.qc_ops.specs.Operands.{found}
+use Rattle.qc_ops.specs.Operators.{unary, binary}
+use Rattle.qc_ops.specs.Sides.{by_side}
+use Rattle.qc_trees.specs.Branches.{truth}
+use Rattle.qc_types.specs.Schemas.{WorldOf, global}
+use Rattle.qc_nnrs.specs.declared.tree.NnrsExpr.{NnrsExpr}
+use Rattle.qc_nnrs.specs.declared.tree.NnrsExpr.TheOpen.{NnrsExpr-F}
+use Rattle.qc_nnrs.specs.declared.tree.NnrsExpr.TheFolds.{fold-NnrsExpr}
+use Rattle.qc_nnrs.specs.declared.tree.NnrsStmt.{NnrsStmt}
+use Rattle.qc_nnrs.specs.declared.tree.NnrsStmt.TheOpen.{NnrsStmt-F}
+use Rattle.qc_nnrs.specs.declared.tree.NnrsStmt.TheFolds.{fold-NnrsStmt}
+use Rattle.qc_nnrs.specs.declared.tree.Nnrs.{Nnrs}
+
+-- ---- variables
+
+-- what may be done with a variable: it is read, where it may have no value; it is set; or it is pushed to
+pub data Class : Type 0 where
+  Reads : (value : Option Datum) → Class
+  Sets : Class
+  Pushes : Class
+
+-- the variables that are bound, the newest first: of those of one number the newest counts
+abbrev pub Frame : Type 0
+Frame = List (ℕ × Class)
+
+-- the values that were written to variables, in order
+abbrev pub Writes : Type 0
+Writes = List (ℕ × Datum)
+
+-- the class of a variable
+abbrev pub class_of : ℕ → Frame → Option Class
+class_of x [] = None
+class_of x (b ∷ f) = cond (b.0 == x) (Some b.1) (class_of x f)
+
+-- the value of a variable that is read
+abbrev pub value_in : Option Class → Option Datum
+value_in (Some (Reads o)) = o
+value_in _ = None
+
+-- the write of a value to a variable that may be set, or pushed to
+abbrev pub set_at : ℕ → Datum → Option Class → Outcome Writes
+set_at x d (Some Sets) = Value ((x, d) ∷ [])
+set_at x d _ = Halts Stuck
+
+abbrev pub push_at : ℕ → Datum → Option Class → Outcome Writes
+push_at x d (Some Pushes) = Value ((x, d) ∷ [])
+push_at x d _ = Halts Stuck
+
+-- all that was written to a variable, in order
+abbrev pub written : ℕ → Writes → List Datum
+written x [] = []
+written x (w ∷ ws) = cond (w.0 == x) (w.1 ∷ written x ws) (written x ws)
+
+-- what was written to other variables
+abbrev pub without : ℕ → Writes → Writes
+without x [] = []
+without x (w ∷ ws) = cond (w.0 == x) (without x ws) (w ∷ without x ws)
+
+-- the last member
+abbrev pub last_of : List Datum → Option Datum
+last_of [] = None
+last_of (d ∷ []) = Some d
+last_of (d ∷ e ∷ ds) = last_of (e ∷ ds)
+
+-- ---- expressions
+
+-- the outcome of an expression, by what variables stand for
+abbrev pub Reading : Type 0
+Reading = Frame → Outcome Datum
+
+-- an expression by the outcomes of its parts
+abbrev pub expr_form : Mode → WorldOf → NnrsExpr-F Reading → Reading
+expr_form m w (NnrsExpr-F.Var x) f = found (value_in (class_of x f))
+expr_form m w (NnrsExpr-F.Const d) f = Value d
+expr_form m w (NnrsExpr-F.Global name) f = found (global name w.datum)
+expr_form m w (NnrsExpr-F.Unary op a) f = and_then (a f) (unary m w.classes op)
+expr_form m w (NnrsExpr-F.Binary op a b) f = and_then (a f) (λ u. and_then (b f) (λ v. binary m op u v))
+
+abbrev pub expr : Mode → WorldOf → NnrsExpr → Reading
+expr m w e = fold-NnrsExpr Reading (expr_form m w) e
+
+-- ---- statements
+
+-- what a statement writes, by what variables stand for
+abbrev pub Meaning : Type 0
+Meaning = Frame → Outcome Writes
+
+-- the second after the first
+unfoldable pub seq_of : Meaning → Meaning → Meaning
+seq_of a b f = and_then (a f) (λ us. and_then (b f) (λ vs. Value (us ++ vs)))
+
+-- the body with a variable that is read
+unfoldable pub reads_as : ℕ → Meaning → Frame → Datum → Outcome Writes
+reads_as x b f d = b ((x, Reads (Some d)) ∷ f)
+
+-- what the first part writes to the variable is what it stands for in the second, which reads it by h
+unfoldable pub handed_on : ℕ → Class → (List Datum → Option Datum) → Meaning → Meaning → Meaning
+handed_on x class h a b f =
+    and_then (a ((x, class) ∷ f)) (λ us.
+    and_then (b ((x, Reads (h (written x us))) ∷ f)) (λ vs. Value (without x us ++ vs)))
+
+-- for: what each member writes, in order
+unfoldable pub for_of : ℕ → Meaning → Frame → Datum → Outcome Writes
+for_of x b f v = and_then (as_coll v) (gather (reads_as x b f))
+
+-- a statement by the meanings of its parts
+abbrev pub form : Mode → WorldOf → NnrsStmt-F Meaning → Meaning
+form m w (NnrsStmt-F.Seq a b) f = seq_of a b f
+form m w (NnrsStmt-F.Let x e b) f = and_then (expr m w e f) (reads_as x b f)
+form m w (NnrsStmt-F.LetMut x a b) f = handed_on x Sets last_of a b f
+form m w (NnrsStmt-F.LetColl x a b) f = handed_on x Pushes (λ ds. Some (Coll ds)) a b f
+form m w (NnrsStmt-F.Set x e) f = and_then (expr m w e f) (λ d. set_at x d (class_of x f))
+form m w (NnrsStmt-F.Push x e) f = and_then (expr m w e f) (λ d. push_at x d (class_of x f))
+form m w (NnrsStmt-F.For x e b) f = and_then (expr m w e f) (for_of x b f)
+form m w (NnrsStmt-F.If e a b) f = and_then (truth (expr m w e f)) (λ holds. cond holds (a f) (b f))
+form m w (NnrsStmt-F.Either e x a y b) f = and_then (expr m w e f) (by_side (reads_as x a f) (reads_as y b f))
+
+-- what a statement writes, in a mode and a world
+abbrev pub stmt : Mode → WorldOf → NnrsStmt → Meaning
+stmt m w s = fold-NnrsStmt Meaning (form m w) s
+
+-- a program: the last value that its variable was set to
+abbrev pub nnrs : Mode → WorldOf → Nnrs → Outcome Datum
+nnrs m w p = and_then (stmt m w p.body ((p.result, Sets) ∷ [])) (λ ws. found (last_of (written p.result ws)))

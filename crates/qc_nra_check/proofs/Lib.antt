@@ -1,0 +1,2 @@
+pub mod FormsSound
+pub mod Sound

@@ -1,0 +1,7 @@
+use Rattle.qc_nra_check.proofs.Sound.{answered}
+use Rattle.qc_nra_check.proofs.inferring.infer.Goals as goal
+
+pub returns-clause-sound : goal.returns-clause-sound
+returns-clause-sound c =
+    answered c.args.schema.now c.classes.ensures.good c.args.q.now c.args.cx.now.input c.args.cx.now.env
+    c.type_in.result c.type_in.ensures

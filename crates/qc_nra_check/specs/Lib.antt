@@ -1,0 +1,2 @@
+pub mod FormTypes
+pub mod Typing

@@ -1,0 +1,10 @@
+pub mod ExpressionsKept
+pub mod FormSteps
+pub mod Frames
+pub mod ProgramAnswered
+pub mod ProgramForms
+pub mod ProgramSizes
+pub mod ScopesKept
+pub mod StatementSteps
+pub mod StatementsKept
+pub mod Stores
