@@ -1,2 +1,1 @@
-pub mod FormsFit
 pub mod Stores

@@ -1,3 +1,2 @@
 pub mod Induction
-pub mod Scopes
 pub mod Stores

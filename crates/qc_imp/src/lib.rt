@@ -6,15 +6,12 @@ mod counting;
 mod evaluating;
 mod expression_texts;
 mod expressions;
-mod fitting;
 mod language;
-mod scope;
 mod slots;
 mod spelling;
 mod store;
 mod tree;
 
 pub use counting::nodes;
-pub use fitting::well_formed;
 pub use spelling::spell;
 pub use tree::{Imp, ImpExpr, ImpStmt};

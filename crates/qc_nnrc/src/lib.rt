@@ -8,7 +8,6 @@ mod evaluating;
 mod language;
 mod spelling;
 mod tree;
-mod variables;
 
 pub use bindings::{Bindings, Frame, Scope};
 pub use chain::{Chain, binding};
@@ -16,4 +15,3 @@ pub use counting::nodes;
 pub use evaluating::eval_at;
 pub use spelling::spell;
 pub use tree::{Nnrc, Var};
-pub use variables::free_in;

@@ -1,3 +1,1 @@
-pub mod Classes
 pub mod Logging
-pub mod Taking

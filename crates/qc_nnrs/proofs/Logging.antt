@@ -17,7 +17,8 @@ use Rattle.qc_nnrs.specs.declared.tree.NnrsStmt.TheFolds.{fold-roll-NnrsStmt, ma
 use Rattle.qc_nnrs.specs.Meaning.{Class, Reads, Sets, Pushes, Frame, Writes, Meaning}
 use Rattle.qc_nnrs.specs.Meaning.{written, without, last_of, expr, seq_of, reads_as, handed_on, for_of, form, stmt}
 use Rattle.qc_nnrs.specs.inner.Induction.{HeldStmt, stmt_ind}
-use Rattle.qc_nnrs.specs.inner.Logged.{added, Logging, logs_with, all_logged, logs_for, log_form, logged}
+use Rattle.qc_nnrs_store.specs.Logs.{added}
+use Rattle.qc_nnrs.specs.inner.Logged.{Logging, logs_with, all_logged, logs_for, log_form, logged}
 use Rattle.qc_nnrs.specs.inner.Logged.{logs_after_set, logs_after_push}
 
 -- behind nothing

@@ -1,8 +1,8 @@
 -- What programs of statements mean, by mode and world. A statement reads what variables stand for, and gives what it
 -- writes, in order. The first outcome that is no value decides.
-use Rattle.std.specs.Prelude.{ℕ, ◌==◌, cond, List, [], ◌∷◌, ◌++◌, Option, Some, None}
+use Rattle.std.specs.Prelude.{ℕ, cond, List, [], ◌∷◌, ◌++◌, Option, Some}
 use Rattle.qc_data.specs.Kinds.{as_coll}
-use Rattle.qc_data.specs.Outcome.{Mode, Outcome, Value, Halts, Stuck, and_then, gather}
+use Rattle.qc_data.specs.Outcome.{Mode, Outcome, Value, and_then, gather}
 use Rattle.qc_data.specs.declared.data.Datum.{Datum}
 use Rattle.qc_data.specs.declared.data.Datum.TheVariants.{Coll}
 use Rattle.qc_ops.specs.Operands.{found}
@@ -10,6 +10,8 @@ use Rattle.qc_ops.specs.Operators.{unary, binary}
 use Rattle.qc_ops.specs.Sides.{by_side}
 use Rattle.qc_trees.specs.Branches.{truth}
 use Rattle.qc_types.specs.Schemas.{WorldOf, global}
+pub use Rattle.qc_nnrs_store.specs.Variables.{Class, Reads, Sets, Pushes, Frame, Writes, class_of, value_in, set_at}
+pub use Rattle.qc_nnrs_store.specs.Variables.{push_at, written, without, last_of}
 use Rattle.qc_nnrs.specs.declared.tree.NnrsExpr.{NnrsExpr}
 use Rattle.qc_nnrs.specs.declared.tree.NnrsExpr.TheOpen.{NnrsExpr-F}
 use Rattle.qc_nnrs.specs.declared.tree.NnrsExpr.TheFolds.{fold-NnrsExpr}
@@ -17,57 +19,6 @@ use Rattle.qc_nnrs.specs.declared.tree.NnrsStmt.{NnrsStmt}
 use Rattle.qc_nnrs.specs.declared.tree.NnrsStmt.TheOpen.{NnrsStmt-F}
 use Rattle.qc_nnrs.specs.declared.tree.NnrsStmt.TheFolds.{fold-NnrsStmt}
 use Rattle.qc_nnrs.specs.declared.tree.Nnrs.{Nnrs}
-
--- ---- variables
-
--- what may be done with a variable: it is read, where it may have no value; it is set; or it is pushed to
-pub data Class : Type 0 where
-  Reads : (value : Option Datum) → Class
-  Sets : Class
-  Pushes : Class
-
--- the variables that are bound, the newest first: of those of one number the newest counts
-abbrev pub Frame : Type 0
-Frame = List (ℕ × Class)
-
--- the values that were written to variables, in order
-abbrev pub Writes : Type 0
-Writes = List (ℕ × Datum)
-
--- the class of a variable
-abbrev pub class_of : ℕ → Frame → Option Class
-class_of x [] = None
-class_of x (b ∷ f) = cond (b.0 == x) (Some b.1) (class_of x f)
-
--- the value of a variable that is read
-abbrev pub value_in : Option Class → Option Datum
-value_in (Some (Reads o)) = o
-value_in _ = None
-
--- the write of a value to a variable that may be set, or pushed to
-abbrev pub set_at : ℕ → Datum → Option Class → Outcome Writes
-set_at x d (Some Sets) = Value ((x, d) ∷ [])
-set_at x d _ = Halts Stuck
-
-abbrev pub push_at : ℕ → Datum → Option Class → Outcome Writes
-push_at x d (Some Pushes) = Value ((x, d) ∷ [])
-push_at x d _ = Halts Stuck
-
--- all that was written to a variable, in order
-abbrev pub written : ℕ → Writes → List Datum
-written x [] = []
-written x (w ∷ ws) = cond (w.0 == x) (w.1 ∷ written x ws) (written x ws)
-
--- what was written to other variables
-abbrev pub without : ℕ → Writes → Writes
-without x [] = []
-without x (w ∷ ws) = cond (w.0 == x) (without x ws) (w ∷ without x ws)
-
--- the last member
-abbrev pub last_of : List Datum → Option Datum
-last_of [] = None
-last_of (d ∷ []) = Some d
-last_of (d ∷ e ∷ ds) = last_of (e ∷ ds)
 
 -- ---- expressions
 

@@ -1,5 +1,5 @@
 -- Which programs are well formed: each variable is bound, and used as its class says.
-use Rattle.std.specs.Prelude.{◌&&◌, Bool, true, false, [], ◌∷◌, Option, Some, None}
+use Rattle.std.specs.Prelude.{◌&&◌, Bool, true, [], ◌∷◌}
 use Rattle.qc_nnrs.specs.declared.tree.NnrsExpr.{NnrsExpr}
 use Rattle.qc_nnrs.specs.declared.tree.NnrsExpr.TheOpen.{NnrsExpr-F}
 use Rattle.qc_nnrs.specs.declared.tree.NnrsExpr.TheFolds.{fold-NnrsExpr}
@@ -7,28 +7,12 @@ use Rattle.qc_nnrs.specs.declared.tree.NnrsStmt.{NnrsStmt}
 use Rattle.qc_nnrs.specs.declared.tree.NnrsStmt.TheOpen.{NnrsStmt-F}
 use Rattle.qc_nnrs.specs.declared.tree.NnrsStmt.TheFolds.{fold-NnrsStmt}
 use Rattle.qc_nnrs.specs.declared.tree.Nnrs.{Nnrs}
-use Rattle.qc_nnrs.specs.Meaning.{Class, Reads, Sets, Pushes, Frame, class_of}
+use Rattle.qc_nnrs.specs.Meaning.{Sets, Pushes, Frame, class_of}
+pub use Rattle.qc_nnrs_store.specs.Variables.{read_only, is_read, is_set, is_pushed}
 
 -- the variables that are bound, by class alone
 abbrev pub Scope : Type 0
 Scope = Frame
-
--- a variable that is read
-abbrev pub read_only : Class
-read_only = Reads None
-
--- how a variable may be used
-abbrev pub is_read : Option Class → Bool
-is_read (Some (Reads o)) = true
-is_read _ = false
-
-abbrev pub is_set : Option Class → Bool
-is_set (Some Sets) = true
-is_set _ = false
-
-abbrev pub is_pushed : Option Class → Bool
-is_pushed (Some Pushes) = true
-is_pushed _ = false
 
 -- an expression: each variable is one that is read
 abbrev pub expr_fits : NnrsExpr-F (Scope → Bool) → Scope → Bool

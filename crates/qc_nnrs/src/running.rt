@@ -2,14 +2,14 @@
 ghost use Rattle.std.specs.Prelude.{[], ◌∷◌};
 ghost use Rattle.qc_data.specs.Outcome.{bits64, Gives};
 ghost use Rattle.qc_nnrs.specs.Meaning.{nnrs, Reads};
-ghost use Rattle.qc_nnrs.specs.inner.Chains.{frame_of};
-ghost use Rattle.qc_nnrs.specs.inner.Logged.{Leads, logged, logs_after_push, logs_after_set, logs_for, logs_with};
+ghost use Rattle.qc_nnrs_store.specs.Chains.{frame_of};
+ghost use Rattle.qc_nnrs.specs.inner.Logged.{logged, logs_after_push, logs_after_set, logs_for, logs_with};
+ghost use Rattle.qc_nnrs_store.specs.Logs.{Leads};
 
-use crate::chain::Chain;
 use crate::expressions::{held, truth, value};
 use crate::tree::{Nnrs, NnrsStmt};
-use crate::writing::{Writes, push_to, set_to, take_all, take_last};
 use qc_data::{Datum, Halt};
+use qc_nnrs_store::{Chain, Writes, push_to, set_to, take_all, take_last};
 use qc_trees::items_of;
 use qc_types::World;
 use std::alloc::Global;

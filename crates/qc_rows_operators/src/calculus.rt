@@ -5,8 +5,9 @@ ghost use Rattle.qc_nnrc.specs.Sizes.{size};
 use crate::bindings::{frame, scope};
 use crate::calculus_tree::tree;
 use qc_data::{Json, Jsons};
-use qc_nnrc::{Nnrc, eval_at, free_in, nodes, spell};
+use qc_nnrc::{Nnrc, eval_at, nodes, spell};
 use qc_nnrc_check::infer;
+use qc_nnrc_free::free_in;
 use qc_rows::{
     Answers, Compared, Form, MOST_NODES, Odd, Texts, counted, integer, items, outcome_tree, schema,
     spelled, type_tree, variable, world,

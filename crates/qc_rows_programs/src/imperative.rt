@@ -4,7 +4,8 @@ ghost use Rattle.qc_imp.specs.Sizes.{size};
 
 use crate::imperative_tree::program;
 use crate::outcome::{evaluated, judged};
-use qc_imp::{Imp, nodes, spell, well_formed};
+use qc_imp::{Imp, nodes, spell};
+use qc_imp_rules::well_formed;
 use qc_rows::{Answers, Compared, Form, MOST_NODES, Odd, Texts, counted, spelled};
 use std::alloc::Global;
 

@@ -4,7 +4,8 @@ ghost use Rattle.qc_nnrs.specs.Sizes.{size};
 
 use crate::outcome::{evaluated, judged};
 use crate::statement_tree::program;
-use qc_nnrs::{Nnrs, nodes, spell, well_formed};
+use qc_nnrs::{Nnrs, nodes, spell};
+use qc_nnrs_rules::well_formed;
 use qc_rows::{Answers, Compared, Form, MOST_NODES, Odd, Texts, counted, spelled};
 use std::alloc::Global;
 

@@ -1,11 +1,9 @@
 -- What statements make of the writes before them, as private functions run them: these, and their own behind.
-use Rattle.std.specs.Prelude.{◌≡◌, ◌≢◌, ℕ, cond, List, [], ◌∷◌, ◌++◌, Option, Some, Result, Ok, Err}
+use Rattle.std.specs.Prelude.{ℕ, cond, List, [], ◌∷◌, ◌++◌, Some}
 use Rattle.qc_data.specs.Kinds.{as_coll}
-use Rattle.qc_data.specs.Outcome.{Mode, Outcome, Value, Halts, and_then, why_of}
+use Rattle.qc_data.specs.Outcome.{Mode, Outcome, Value, and_then}
 use Rattle.qc_data.specs.declared.data.Datum.{Datum}
 use Rattle.qc_data.specs.declared.data.Datum.TheVariants.{Coll}
-use Rattle.qc_data.specs.declared.halt.Halt.{Halt}
-use Rattle.qc_data.specs.declared.halt.Halt.TheVariants as halt
 use Rattle.qc_ops.specs.Sides.{by_side}
 use Rattle.qc_trees.specs.Branches.{truth}
 use Rattle.qc_types.specs.Schemas.{WorldOf}
@@ -14,10 +12,7 @@ use Rattle.qc_nnrs.specs.declared.tree.NnrsStmt.TheOpen.{NnrsStmt-F}
 use Rattle.qc_nnrs.specs.declared.tree.NnrsStmt.TheFolds.{fold-NnrsStmt}
 use Rattle.qc_nnrs.specs.Meaning.{Reads, Sets, Pushes, Frame, Writes, class_of, set_at, push_at}
 use Rattle.qc_nnrs.specs.Meaning.{written, without, last_of, expr}
-
--- the writes of an outcome behind others
-unfoldable pub added : Writes → Outcome Writes → Outcome Writes
-added log o = and_then o (λ ws. Value (log ++ ws))
+use Rattle.qc_nnrs_store.specs.Logs.{added}
 
 -- what a statement makes of the writes before it, by what variables stand for
 abbrev pub Logging : Type 0
@@ -60,15 +55,3 @@ log_form m w (NnrsStmt-F.Either e x a y b) f log =
 -- a statement, in a mode and a world
 abbrev pub logged : Mode → WorldOf → NnrsStmt → Logging
 logged m w s = fold-NnrsStmt Logging (log_form m w) s
-
--- ---- answers of code
-
--- the code led to the log, unless memory was wanting
-abbrev pub Leads : Outcome Writes → Writes → Result (Unit {0}) Halt → Type 0
-Leads o new (Ok _) = o ≡ Value new
-Leads o new (Err e) = e ≢ halt.Memory → o ≡ Halts (why_of e)
-
--- the last of a value and of others behind it
-abbrev pub last_after : Option Datum → List Datum → Option Datum
-last_after o [] = o
-last_after o (d ∷ ds) = last_after (Some d) ds

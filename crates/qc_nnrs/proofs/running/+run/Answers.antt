@@ -6,7 +6,7 @@ use Rattle.qc_ops.specs.Sides.{by_side}
 use Rattle.qc_nnrs.specs.Meaning.{expr}
 use Rattle.qc_nnrs.specs.declared.tree.NnrsStmt.{the_lemmas}
 use Rattle.qc_nnrs.specs.declared.tree.NnrsStmt.TheVariants as tree
-use Rattle.qc_nnrs.specs.inner.Chains.{frame_of}
+use Rattle.qc_nnrs_store.specs.Chains.{frame_of}
 use Rattle.qc_nnrs.specs.inner.Logged.{logged, logs_for, logs_with}
 use Rattle.qc_nnrs.proofs.running.+run.Goals as goal
 

@@ -1,6 +1,6 @@
 use Rattle.std.proofs.Common.{◌≡◌, drop}
 use Rattle.qc_data.specs.Outcome.{bits64}
-use Rattle.qc_nnrs.specs.inner.Chains.{frame_of}
+use Rattle.qc_nnrs_store.specs.Chains.{frame_of}
 use Rattle.qc_nnrs.specs.inner.Logged.{all_logged, logged, logs_with}
 use Rattle.qc_nnrs.proofs.running.+run.Given as goal
 

@@ -1,0 +1,4 @@
+pub mod inner
+pub mod Variables
+pub mod Chains
+pub mod Logs
