@@ -67,7 +67,8 @@ module _ (g : Rules) (o : Table) (kinds : List ℕ) where
   pub wants : (i k p : ℕ) (rest ps : List ℕ) (es : List Event) (r : Result Top Memory) (t : Top)
       → After g o kinds i rest ps es r → r ≡ Ok t → t ≡ Wants k p
       → Reached o kinds (Token k ∷ left o (p ∷ ps)) i rest es
-  wants i k p rest ps es r t h a b = let at : r ≡ Ok (Wants k p) = cc in subst (λ z. After g o kinds i rest ps es z) at h
+  wants i k p rest ps es r t h a b =
+      let at : r ≡ Ok (Wants k p) = cc in subst (λ z. After g o kinds i rest ps es z) at h
 
   pub ends : (i : ℕ) (rest ps : List ℕ) (es : List Event) (r : Result Top Memory) (t : Top)
       → After g o kinds i rest ps es r → r ≡ Ok t → t ≡ Ends → Reached o kinds [] i rest es

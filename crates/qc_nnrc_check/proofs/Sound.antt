@@ -24,7 +24,8 @@ use Rattle.qc_nnrc.specs.declared.tree.Nnrc.TheViews.{roll-Nnrc}
 use Rattle.qc_nnrc.specs.declared.tree.Nnrc.TheFolds.{fold-roll-Nnrc, map-Nnrc}
 use Rattle.qc_nnrc.specs.Laws.{agrees_nnrc}
 use Rattle.qc_nnrc.specs.Meaning.{Values, Meaning, bound_to, for_of, form, nnrc}
-use Rattle.qc_nnrc_check.specs.Typing.{Types, Typing, bound_type, for_type, either_type, form_type, nnrc_type, Fits, IsSound}
+use Rattle.qc_nnrc_check.specs.Typing.{Types, Typing, bound_type, for_type, either_type, form_type, nnrc_type}
+use Rattle.qc_nnrc_check.specs.Typing.{Fits, IsSound}
 use Rattle.qc_nnrc.specs.Variables.{look}
 use Rattle.qc_nnrc.specs.inner.Induction.{Held, nnrc_ind}
 

@@ -13,7 +13,8 @@ use Rattle.qc_typing.specs.Kinds.{sides_of}
 use Rattle.qc_nra.specs.declared.tree.Nra.{Nra}
 use Rattle.qc_nra.specs.declared.tree.Nra.TheOpen.{Nra-F}
 use Rattle.qc_nra.specs.declared.tree.Nra.TheFolds.{fold-Nra}
-use Rattle.qc_nra_check.specs.FormTypes.{Typing, map_type, select_type, product_type, join_type, default_type, env_map_type}
+use Rattle.qc_nra_check.specs.FormTypes.{Typing, map_type, select_type, product_type, join_type, default_type}
+use Rattle.qc_nra_check.specs.FormTypes.{env_map_type}
 use Rattle.qc_nra.specs.Meaning.{nra}
 
 -- a tree by the types of its parts, the type i of its input and the type e of its environment

@@ -24,8 +24,8 @@ use Rattle.qc_ops.specs.inner.Beside.{rows_beside, Gathers}
 use Rattle.qc_ops.specs.Operands.{as_rec, bag, only_if}
 use Rattle.qc_ops.specs.Records.{is_among, has_names, fields_at, projection}
 use Rattle.qc_ops.specs.Sameness.{same}
-use Rattle.qc_ops.specs.declared.copies.Keep.TheVariants.{First}
-use Rattle.qc_ops.proofs.Keeping.{chosen, kept_next, tallied_more, told}
+use Rattle.qc_bags.specs.declared.copies.Keep.TheVariants.{First}
+use Rattle.qc_bags.proofs.Keeping.{chosen, kept_next, tallied_more, told}
 use Rattle.qc_ops.proofs.Means.{length-each}
 use Rattle.qc_ops.proofs.Overlays.{from_place, past}
 

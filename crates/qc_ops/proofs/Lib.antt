@@ -2,11 +2,9 @@ pub mod Agreements
 pub mod ColumnLaws
 pub mod Folds
 pub mod Groups
-pub mod Keeping
 pub mod Means
 pub mod OperatorLaws
 pub mod Overlays
-pub mod Patterns
 pub mod Products
 pub mod RowOrder
 pub mod SameTests

@@ -1,12 +1,13 @@
 -- Collections: their members, and by how many copies of one there are.
-use Rattle.std.specs.Prelude.{ℕ, suc, Bool, cond, ◌==◌, nat_lt, nat_le, List, [], ◌∷◌, ◌++◌, Option, Some, None}
+use Rattle.std.specs.Prelude.{◌==◌, nat_lt, nat_le, List, [], ◌∷◌, ◌++◌, Option, Some, None}
 use Rattle.std.specs.List.{list_any}
 use Rattle.qc_data.specs.Kinds.{as_coll}
 use Rattle.qc_data.specs.Outcome.{Outcome, Value, and_then, gather}
 use Rattle.qc_data.specs.declared.data.Datum.{Datum}
 use Rattle.qc_data.specs.declared.data.Datum.TheVariants.{Bool as Truth, Coll}
 use Rattle.qc_ops.specs.Operands.{bag, optional}
-use Rattle.qc_ops.specs.Sameness.{same, copies}
+pub use Rattle.qc_bags.specs.Copies.{kept_by}
+use Rattle.qc_bags.specs.Copies.{copies, same}
 
 -- single
 abbrev pub bag_of : Datum → Outcome Datum
@@ -25,13 +26,6 @@ only_member a = and_then (as_coll a) (λ xs. Value (optional (only_of xs)))
 -- flatten
 abbrev pub flattened : Datum → Outcome Datum
 flattened a = and_then (as_coll a) (λ xs. bag (gather as_coll xs))
-
--- the members that the test keeps by how many copies of each there are up to and with it, where those of `before` came
--- first
-abbrev pub kept_by : (ℕ → Datum → Bool) → List Datum → List Datum → List Datum
-kept_by test before [] = []
-kept_by test before (x ∷ xs) =
-    cond (test (suc (copies x before)) x) (x ∷ kept_by test (before ++ x ∷ []) xs) (kept_by test (before ++ x ∷ []) xs)
 
 -- the first occurrences
 abbrev pub firsts : List Datum → List Datum

@@ -1,4 +1,2 @@
 pub mod Beside
 pub mod Columns
-pub mod Keeping
-pub mod Likeness

@@ -5,8 +5,8 @@ ghost use Rattle.qc_data.specs.Outcome.{gather, Gives};
 ghost use Rattle.qc_ops.specs.Bags.{bag_of, distinct, except, flattened, intersection, membership, only_member, union};
 ghost use Rattle.qc_ops.specs.Sameness.{equality};
 
-use crate::copies::{Keep, kept};
 use crate::operands::{items_of, optional};
+use qc_bags::{Keep, kept};
 use qc_containers::Memory;
 use qc_data::{Datum, Halt, Items, copy};
 use qc_keys::{has_same, is_same};

@@ -3,9 +3,9 @@ ghost use Rattle.qc_data.specs.Outcome.{Gives};
 ghost use Rattle.qc_ops.specs.Texts.{joined, likeness};
 
 use crate::operands::text_of;
-use crate::pattern::like;
 use qc_containers::Chars;
 use qc_data::{Datum, Halt};
+use qc_like::like;
 use std::alloc::Global;
 
 pub(crate) fn likeness(pattern: &Chars, a: &Datum) -> Result<Datum, Halt>

@@ -82,7 +82,10 @@ begins : (s : List ℕ) → IsTrue (nat_lt 0 (length (next_numeral s))) × (is_m
 begins [] = (refl, refl)
 begins (c ∷ cs) =
     elim (nat_eq c 97) as (λ b. let s = cond b (98 ∷ cs) (97 ∷ next_numeral cs) in
-    IsTrue (nat_lt 0 (length s)) × (is_marker s ≡ false)) [ true ↦ (some (length cs), refl) | false ↦ (some (length (next_numeral cs)), refl) ]
+    IsTrue (nat_lt 0 (length s)) × (is_marker s ≡ false)) [
+      | true ↦ (some (length cs), refl)
+      | false ↦ (some (length (next_numeral cs)), refl)
+    ]
 
 both_tests : (a b c : Bool) → IsTrue a → IsTrue b → c ≡ false → IsTrue (a && (b && not c))
 both_tests true true false p q r = refl

@@ -40,7 +40,8 @@ use Rattle.qc_oql_nra.specs.OqlForms.{ordered_tree, distinct_tree, select_tree}
 use Rattle.qc_oql_nra.specs.OqlTrees as trees
 use Rattle.qc_oql_nra.specs.OqlTrees.{oql_tree, filter_tree, key_tree, named_tree, order_tree, part_tree}
 use Rattle.qc_oql_nra.specs.OqlTrees.{defined_tree, query_tree}
-use Rattle.qc_oql_nra.proofs.NraSizes.{size-Const, size-Input, size-Env, size-Global, size-Unary, size-Binary, size-Comp}
+use Rattle.qc_oql_nra.proofs.NraSizes.{size-Const, size-Input, size-Env, size-Global, size-Unary, size-Binary}
+use Rattle.qc_oql_nra.proofs.NraSizes.{size-Comp}
 use Rattle.qc_oql_nra.proofs.NraSizes.{size-Map, size-Select, size-DepJoin, size-EnvComp, size-Either, size-If}
 use Rattle.qc_oql_nra.proofs.OqlInduction.{OfSome, PartsHold, all_named, all_oql}
 use Rattle.qc_oql_nra.proofs.OqlTreeForms.{select_roll}

@@ -3,7 +3,7 @@ use qc_containers::{Chars, Name, NameFault};
 use qc_data::{Json, Jsons, enc};
 use qc_grammar::SyntaxFault;
 use qc_lex::{ScanFault, Table, Words, scan};
-use qc_ops::like;
+use qc_like::like;
 use qc_oql_text::parse;
 use qc_rows::{Form, Odd, Texts, fault_text, tree_text, truth_text};
 use qc_schema::{InputFault, SchemaFault, read_input, read_json, read_schema};

@@ -265,7 +265,8 @@ module _ (m : Mode) (w : WorldOf) where
   module _ (f : Values) (g : Frame) (r : Renaming) (k : ℕ) (c : Class) (holds : Holds f g r k) where
     beside_holds : Holds f ((k, c) ∷ g) r (k + 1)
     beside_holds =
-        holds_later f g ((k, c) ∷ g) r k (k + 1) (omega arith) (same_under k k c g g (omega arith) (same_itself k g)) holds
+        holds_later f g ((k, c) ∷ g) r k (k + 1) (omega arith)
+        (same_under k k c g g (omega arith) (same_itself k g)) holds
 
     inside_holds : (y : ℕ) (v : Datum) → Holds ((y, v) ∷ f) ((k + 1, read v) ∷ (k, c) ∷ g) ((y, k + 1) ∷ r) (k + 2)
     inside_holds y v = holds_under f ((k, c) ∷ g) r y (k + 1) (k + 2) v (omega arith) beside_holds

@@ -37,8 +37,8 @@ tokens-preserved g c = let o = table c.args.table in let h = c.in-Some-split_fir
           c.expand.new.events c.in-Some-split_first.first.now h.0 c.if-first-kind.false
           (wants (rules o g.notes) o c.args.kinds.now c.tokens.at c.in-Wants.kind c.in-Wants.behind c.tokens.rest.now
           c.expand.new.stack c.expand.new.events c.expand.result c.in_ok-kind.field-0
-          (c.expand.ensures c.args.kinds.now c.tokens.rest.now c.peek-in-tokens.ensures c.tokens.invariant.1) c.in_ok-kind.was
-          c.in-Wants.is),
+          (c.expand.ensures c.args.kinds.now c.tokens.rest.now c.peek-in-tokens.ensures c.tokens.invariant.1)
+          c.in_ok-kind.was c.in-Wants.is),
     )
 
 pub returns-in-None : goal.returns-in-None

@@ -2,9 +2,9 @@ use Rattle.std.proofs.Common.{◌≡◌, ◌+◌, length}
 use Rattle.std.specs.Prelude.{chars}
 use denote.Shadow.{shadow}
 use denote.Text.{Utf8}
-use Rattle.qc_ops.specs.Texts.{is_like}
-use Rattle.qc_ops.proofs.Patterns.{meets}
-use Rattle.qc_ops.proofs.pattern.like.Given as goal
+use Rattle.qc_like.specs.Patterns.{is_like}
+use Rattle.qc_like.proofs.Patterns.{meets}
+use Rattle.qc_like.proofs.pattern.like.Given as goal
 
 abbrev pub invariant-loop-rest : goal.invariant-loop-rest
 invariant-loop-rest l = record {

@@ -2,8 +2,8 @@ use Rattle.std.proofs.Common.{◌≡◌, ◌≤◌, length}
 use Rattle.std.specs.Prelude.{chars}
 use denote.Shadow.{shadow}
 use denote.Text.{Utf8}
-use Rattle.qc_ops.specs.inner.Likeness.{passed}
-use Rattle.qc_ops.proofs.pattern.pass.Given as goal
+use Rattle.qc_like.specs.inner.Likeness.{passed}
+use Rattle.qc_like.proofs.pattern.pass.Given as goal
 
 abbrev pub invariant-loop-p : goal.invariant-loop-p
 invariant-loop-p l = record {

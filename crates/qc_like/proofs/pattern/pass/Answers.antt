@@ -1,7 +1,7 @@
 use Rattle.std.proofs.Common.{◌∙◌, sym}
 use Rattle.std.specs.Prelude.{chars}
-use Rattle.qc_ops.proofs.Patterns.{passed-longer, passed-over, passed-shorter}
-use Rattle.qc_ops.proofs.pattern.pass.Goals as goal
+use Rattle.qc_like.proofs.Patterns.{passed-longer, passed-over, passed-shorter}
+use Rattle.qc_like.proofs.pattern.pass.Goals as goal
 
 pub returns-in_default-first-clause-value : goal.returns-in_default-first-clause-value
 returns-in_default-first-clause-value c =

@@ -1,9 +1,9 @@
 use Rattle.std.proofs.Common.{◌∙◌, sym, ap, rules, arith}
 use Rattle.std.specs.Prelude.{chars}
 use Rattle.std.proofs.lemmas.Bool.Decides.{nat_tests}
-use Rattle.qc_ops.proofs.Patterns.{meets, meets-end, meets-over, meets-run, meets-unlike, meets-none, meets-later}
-use Rattle.qc_ops.proofs.Patterns.{nothing}
-use Rattle.qc_ops.proofs.pattern.like.Goals as goal
+use Rattle.qc_like.proofs.Patterns.{meets, meets-end, meets-over, meets-run, meets-unlike, meets-none, meets-later}
+use Rattle.qc_like.proofs.Patterns.{nothing}
+use Rattle.qc_like.proofs.pattern.like.Goals as goal
 
 pub returns-in-Over : goal.returns-in-Over
 returns-in-Over c =

@@ -1,8 +1,8 @@
 -- A pattern's characters up to the next `%`, passed over together with a text's, as a private function does.
 use Rattle.std.specs.Prelude.{ℕ, ◌<◌, ◌≤◌, length, cond, ◌||◌, ◌==◌, List, [], ◌∷◌, chars}
-use Rattle.qc_ops.specs.Texts.{any_run, any_one}
-use Rattle.qc_ops.specs.declared.pattern.Walk.{Walk}
-use Rattle.qc_ops.specs.declared.pattern.Walk.TheVariants as code
+use Rattle.qc_like.specs.Patterns.{any_run, any_one}
+use Rattle.qc_like.specs.declared.pattern.Walk.{Walk}
+use Rattle.qc_like.specs.declared.pattern.Walk.TheVariants as code
 
 -- both are over, or the text has other characters, or the pattern has these behind a `%` and the text has these left
 pub data Passed : Type 0 where

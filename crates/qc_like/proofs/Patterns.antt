@@ -6,8 +6,8 @@ use Rattle.std.specs.Cmp.{both_ways}
 use Rattle.std.proofs.lemmas.Str.{chars-nil}
 use Rattle.std.proofs.lemmas.Bool.Decides.{nat_tests}
 use Rattle.qc_containers.proofs.Truth.{and_parts}
-use Rattle.qc_ops.specs.Texts.{any_run, any_one, some_tail, one_char, matches}
-use Rattle.qc_ops.specs.inner.Likeness.{Passed, Over, Unlike, Run, passed, one_passed}
+use Rattle.qc_like.specs.Patterns.{any_run, any_one, some_tail, one_char, matches}
+use Rattle.qc_like.specs.inner.Likeness.{Passed, Over, Unlike, Run, passed, one_passed}
 
 -- ---- what a walk tells of the pattern
 

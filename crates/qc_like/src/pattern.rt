@@ -1,7 +1,7 @@
 // Texts against patterns.
 ghost use Rattle.std.specs.Prelude.{◌≡◌, ◌∷◌, ◌<◌, ◌≤◌, [], chars, length, IfNone, IfSome};
-ghost use Rattle.qc_ops.specs.inner.Likeness.{answer_of, passed, IsShorter};
-ghost use Rattle.qc_ops.specs.Texts.{is_like};
+ghost use Rattle.qc_like.specs.inner.Likeness.{answer_of, passed, IsShorter};
+ghost use Rattle.qc_like.specs.Patterns.{is_like};
 
 // How a pattern and a text go on together.
 enum Walk<'a> {
