@@ -32,15 +32,16 @@ pub fn kept(
     picked(alloc, flags.as_slice(), items)
 }
 
-/// For each member whether the rule keeps it, where `elsewhere` is what its copies are counted in too. The canon of each
-/// is taken once.
+/// For each member whether the rule keeps it, where `elsewhere` is what its copies are counted in too. The canon of
+/// each is taken once.
 pub fn flags(
     alloc: Global,
     rule: Keep,
     items: &[Datum],
     elsewhere: &[Datum],
 ) -> Result<Vec<bool>, Memory>
-    ensures { IfOk result (λ made. made.items ≡ flags_by (λ k item. keeps rule k (copies item elsewhere.now)) [] items.now) }
+    ensures { IfOk result
+        (λ made. made.items ≡ flags_by (λ k item. keeps rule k (copies item elsewhere.now)) [] items.now) }
 {
     let others = Tally::of(alloc, elsewhere)?;
     let mut seen = Tally::new(alloc);

@@ -3,4 +3,4 @@
 
 mod copies;
 
-pub use copies::{Keep, kept};
+pub use copies::{Keep, flags, kept};

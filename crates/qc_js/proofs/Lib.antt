@@ -1,10 +1,10 @@
-mod Both
-pub mod Distinct
-pub mod Forms
-pub mod Induction
-pub mod Laid
-pub mod Meanings
-pub mod OneTree
-pub mod Parts
+pub mod Counts
+pub mod Escapes
+pub mod Fronts
+pub mod Goods
+pub mod LaidOut
+pub mod Prefixes
 pub mod Scanned
-pub mod Spelled
+pub mod Statements
+pub mod Tests
+pub mod Texts

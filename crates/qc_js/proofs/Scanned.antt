@@ -1,230 +1,144 @@
--- A text has at most one list of tokens.
-use Rattle.std.proofs.Common.{◌≡◌, ℕ, ◌+◌, ◌%◌, ◌<◌, ◌^◌, ℤ, Bool, true, false, if◌then◌else◌, ◌==◌, ◌&&◌, List, []}
-use Rattle.std.proofs.Common.{◌∷◌, ◌++◌, decimal, arith, refl, sym, ap, ◌∙◌, subst}
+-- The layout of good tokens has these tokens.
+use Rattle.std.proofs.Common.{◌≡◌, ℕ, suc, ℤ, pos, negsuc, ◌-ℤ◌, List, [], ◌∷◌, ◌++◌, Bool, true, false, ◌||◌, ◌==◌}
+use Rattle.std.proofs.Common.{if◌then◌else◌, codes, refl, sym, ap, ◌∙◌, arith, subst}
 use Rattle.std.proofs.lemmas.Bool.Decides.{nat_tests}
 use Rattle.std.proofs.lemmas.Int.{ints}
-use Rattle.std.proofs.lemmas.Fmt.{decimal_by_steps, decimal_injective}
-use Rattle.std.specs.Char.{is_ascii_digit, is_ascii_alphabetic}
-use Rattle.qc_js.specs.Token.{Token, Word, Int, Mark, is_bits64}
-use Rattle.qc_js.proofs.Both.{both, both-left, both-right}
-use Rattle.qc_js.specs.Spelling.{is_blank, is_mark, past_line, word_part, past_word, sign, signed, BeginsInt, Scans}
-use Rattle.qc_js.specs.Spelling.{end, blank, comment, word, int, mark}
+use Rattle.std.specs.Char.{is_ascii_alphabetic, is_ascii_alphanumeric}
+use Rattle.std.specs.Fmt.{signed_decimal}
+use Rattle.std.specs.Str.{is_utf8, bytes_eq}
+use Rattle.qc_js.specs.declared.token.Token.{Token}
+use Rattle.qc_js.specs.declared.token.Token.TheVariants.{Word, Int, Text, Mark}
+use Rattle.qc_js.specs.Held.{is_bits64}
+use Rattle.qc_js.specs.Layout.{Left, opens, keyword, other, left, gap, gap_other, is_tight, spelling, after, escaped}
+use Rattle.qc_js.specs.Spelling.{is_mark, word_part, past_word, Begins, blank, word, int, string, mark, Scans, end}
+use Rattle.qc_js.specs.Spelling.{next}
+use Rattle.qc_js.specs.inner.Good.{all_alphanumeric, is_word, is_good, all_good}
+use Rattle.qc_js.proofs.Escapes.{escaped_stands}
+use Rattle.qc_js.proofs.Fronts.{assoc}
+use Rattle.qc_js.proofs.Tests.{both-left, both-right}
 
--- ---- what a first byte begins
+-- no word goes on here
+abbrev pub NoWord : List ℕ → Type 0
+NoWord [] = Unit {0}
+NoWord (b ∷ bs) = is_ascii_alphanumeric b ≡ false
 
-data Kind : Type 0 where
-  Blank : Kind
-  Letter : Kind
-  Marked : Kind
-  Slash : Kind
-  Number : Kind
+-- ---- a token and what follows
 
-kind : ℕ → Kind
-kind b = if is_blank b then Blank else if is_ascii_alphabetic b then Letter else if is_mark b then Marked else if b ==
-    47 then Slash else Number
+word_ends : (cs rest : List ℕ) → all_alphanumeric cs ≡ true → NoWord rest
+    → (word_part (cs ++ rest) ≡ cs) × (past_word (cs ++ rest) ≡ rest)
+word_ends [] [] g n = (refl, refl)
+word_ends [] (b ∷ rest) g n = (rw n refl, rw n refl)
+word_ends (c ∷ cs) rest g n =
+    let a : is_ascii_alphanumeric c ≡ true = both-left (is_ascii_alphanumeric c) (all_alphanumeric cs) g in
+    let h = word_ends cs rest (both-right (is_ascii_alphanumeric c) (all_alphanumeric cs) g) n in
+    (rw a (ap (λ z. c ∷ z) h.0), rw a h.1)
 
-kind-blank : (b : ℕ) → is_blank b ≡ true → kind b ≡ Blank
-unfolding kind
-kind-blank b p = rw p refl
+pub begins_word : (w rest : List ℕ) → is_word w ≡ true → NoWord rest → Begins (w ++ rest) (Word w ∷ []) rest
+begins_word [] rest g n = let f : false ≡ true = g in absurd cc
+begins_word (c ∷ cs) rest g n =
+    let h = word_ends cs rest (both-right (is_ascii_alphabetic c) (all_alphanumeric cs) g) n in
+    subst (λ z. Begins (c ∷ (cs ++ rest)) (Word (c ∷ z) ∷ []) rest) h.0
+    (subst (λ z. Begins (c ∷ (cs ++ rest)) (Word (c ∷ word_part (cs ++ rest)) ∷ []) z) h.1
+    (word c (cs ++ rest) (both-left (is_ascii_alphabetic c) (all_alphanumeric cs) g)))
 
-kind-letter : (b : ℕ) → is_ascii_alphabetic b ≡ true → kind b ≡ Letter
-unfolding kind
-kind-letter b p = let n : is_blank b ≡ false = grind (arith, nat_tests) in rw (n, p) refl
+minus_is : (n : ℕ) → negsuc n ≡ pos 0 -ℤ pos (suc n)
+minus_is n = omega (arith, ints)
 
-kind-mark : (b : ℕ) → is_mark b ≡ true → kind b ≡ Marked
-unfolding kind
-kind-mark b p =
-    let n : is_blank b ≡ false = grind (arith, nat_tests) in
-    let l : is_ascii_alphabetic b ≡ false = grind (arith, nat_tests) in rw (n, l, p) refl
+pub begins_int : (n : ℤ) (rest : List ℕ) → is_bits64 n ≡ true
+    → Begins (signed_decimal n ++ 110 ∷ rest) (Int n ∷ []) rest
+begins_int (pos n) rest h =
+    int (pos n) _ rest (record { minus = false; size = n; value = refl; written = refl; bits64 = h })
+begins_int (negsuc n) rest h =
+    int (negsuc n) _ rest (record { minus = true; size = suc n; value = minus_is n; written = refl; bits64 = h })
 
-kind-slash : (b : ℕ) → b ≡ 47 → kind b ≡ Slash
-unfolding kind
-kind-slash b p = rw p refl
+pub begins_text : (t rest : List ℕ) → is_utf8 t ≡ true → Begins (34 ∷ (escaped t ++ 34 ∷ rest)) (Text t ∷ []) rest
+begins_text t rest u =
+    string t _ rest (record { bytes = escaped t; written = refl; stands = escaped_stands t; utf8 = u })
 
-kind-digit : (b : ℕ) → is_ascii_digit b ≡ true → kind b ≡ Number
-unfolding kind
-kind-digit b p =
-    let n : is_blank b ≡ false = grind (arith, nat_tests) in
-    let l : is_ascii_alphabetic b ≡ false = grind (arith, nat_tests) in
-    let m : is_mark b ≡ false = grind (arith, nat_tests) in
-    let s : (b == 47) ≡ false = grind (arith, nat_tests) in
-    rw (n, l, m, s) refl
+-- ---- the layout, and what follows it
 
-kind-minus : kind 45 ≡ Number
-unfolding kind
-kind-minus = refl
+abbrev laid : Left → List Token → List ℕ → List ℕ
+laid l [] tail = tail
+laid l (t ∷ ts) tail = gap l t ++ (spelling t ++ laid (left t) ts tail)
 
--- ---- integers
+after_laid : (l : Left) (ts : List Token) (tail : List ℕ) → after l ts ++ tail ≡ laid l ts tail
+after_laid l [] tail = refl
+after_laid l (t ∷ ts) tail =
+    assoc (gap l t) (spelling t ++ after (left t) ts) tail
+    ∙ ap (λ z. gap l t ++ z)
+    (assoc (spelling t) (after (left t) ts) tail ∙ ap (λ z. spelling t ++ z) (after_laid (left t) ts tail))
 
--- a digit and then digits
-abbrev all_digits : List ℕ → Bool
-all_digits [] = true
-all_digits (d ∷ ds) = is_ascii_digit d && all_digits ds
+spaced : (text : List ℕ) (ts : List Token) → Scans text ts → Scans (32 ∷ text) ts
+spaced text ts h = next (blank 32 text refl) h
 
-abbrev IsNumber : List ℕ → Type 0
-IsNumber [] = ⊥
-IsNumber (d ∷ ds) = (is_ascii_digit d ≡ true) × (all_digits ds ≡ true)
+cond_gap : (c : Bool) (x : List ℕ) (ts : List Token) → Scans x ts → Scans ((if c then [] else 32 ∷ []) ++ x) ts
+cond_gap true x ts h = h
+cond_gap false x ts h = spaced x ts h
 
-last_digit : (n : ℕ) → is_ascii_digit (48 + n % 10) ≡ true
-last_digit n = grind (arith, nat_tests)
+other_gap : (l : Left) (x : List ℕ) (ts : List Token) → Scans x ts → Scans (gap_other l ++ x) ts
+other_gap opens x ts h = h
+other_gap keyword x ts h = spaced x ts h
+other_gap other x ts h = spaced x ts h
 
-all_digits-push : (ds : List ℕ) (d : ℕ) → all_digits ds ≡ true → is_ascii_digit d ≡ true
-    → all_digits (ds ++ d ∷ []) ≡ true
-all_digits-push [] d p q = rw q refl
-all_digits-push (c ∷ ds) d p q =
-    both (is_ascii_digit c) (all_digits (ds ++ d ∷ [])) (both-left (is_ascii_digit c) (all_digits ds) p)
-    (all_digits-push ds d (both-right (is_ascii_digit c) (all_digits ds) p) q)
+any_gap : (l : Left) (t : Token) (x : List ℕ) (ts : List Token) → Scans x ts → Scans (gap l t ++ x) ts
+any_gap l (Word w) x ts h = other_gap l x ts h
+any_gap l (Int n) x ts h = other_gap l x ts h
+any_gap l (Text s) x ts h = other_gap l x ts h
+any_gap opens (Mark b) x ts h = h
+any_gap keyword (Mark b) x ts h = cond_gap (is_tight b) x ts h
+any_gap other (Mark b) x ts h = cond_gap (is_tight b || (b == 40)) x ts h
 
-IsNumber-push : (ds : List ℕ) (d : ℕ) → IsNumber ds → is_ascii_digit d ≡ true → IsNumber (ds ++ d ∷ [])
-IsNumber-push [] d p q = absurd p
-IsNumber-push (c ∷ ds) d p q = (p.0, all_digits-push ds d p.1 q)
+mark_stops : (c : Bool) (b : ℕ) (rest : List ℕ) → is_mark b ≡ true → NoWord ((if c then [] else 32 ∷ []) ++ (b ∷ rest))
+mark_stops true b rest m = grind (arith, nat_tests)
+mark_stops false b rest m = refl
 
-first_digit : (n : ℕ) → n < 10 → is_ascii_digit (48 + n) ≡ true
-first_digit n l = grind (arith, nat_tests)
+stops : (t : Token) (ts : List Token) (tail : List ℕ) → is_good t ≡ true → NoWord (laid other (t ∷ ts) tail)
+stops (Word w) ts tail g = refl
+stops (Int n) ts tail g = refl
+stops (Text s) ts tail g = refl
+stops (Mark b) ts tail g = mark_stops (is_tight b || (b == 40)) b _ g
 
-decimal_is_number : (n : ℕ) → n < 2 ^ 64 → IsNumber (decimal n)
-decimal_is_number n l =
-    decimal_by_steps (λ n ds. IsNumber ds) (λ n h. (first_digit n h, refl))
-    (λ n ds h p. IsNumber-push ds (48 + n % 10) p (last_digit n)) n l
+stops_keyword : (t : Token) (ts : List Token) (tail : List ℕ) → is_good t ≡ true → NoWord (laid keyword (t ∷ ts) tail)
+stops_keyword (Word w) ts tail g = refl
+stops_keyword (Int n) ts tail g = refl
+stops_keyword (Text s) ts tail g = refl
+stops_keyword (Mark b) ts tail g = mark_stops (is_tight b) b _ g
 
-not_n : (d : ℕ) → d ≡ 110 → is_ascii_digit d ≡ true → ⊥
-not_n d e h = grind (arith, nat_tests)
+stops_word : (c : Bool) (ts : List Token) (tail : List ℕ) → all_good ts ≡ true → NoWord tail
+    → NoWord (laid (if c then keyword else other) ts tail)
+stops_word true [] tail g s = s
+stops_word false [] tail g s = s
+stops_word true (t ∷ ts) tail g s = stops_keyword t ts tail (both-left (is_good t) (all_good ts) g)
+stops_word false (t ∷ ts) tail g s = stops t ts tail (both-left (is_good t) (all_good ts) g)
 
-minus_no_digit : (d : ℕ) → d ≡ 45 → is_ascii_digit d ≡ true → ⊥
-minus_no_digit d e h = grind (arith, nat_tests)
+round : (l : Left) (ts : List Token) (tail : List ℕ) → all_good ts ≡ true → NoWord tail → Scans tail []
+    → Scans (laid l ts tail) ts
+round l [] tail g s h = h
+round l (Word w ∷ ts) tail g s h =
+    let a : is_word w ≡ true = both-left (is_word w) (all_good ts) g in
+    let b : all_good ts ≡ true = both-right (is_word w) (all_good ts) g in
+    any_gap l (Word w) _ _
+    (next (begins_word w _ a (stops_word (bytes_eq w (codes "for") || bytes_eq w (codes "if")) ts tail b s))
+    (round (left (Word w)) ts tail b s h))
+round l (Int n ∷ ts) tail g s h =
+    let a : is_bits64 n ≡ true = both-left (is_bits64 n) (all_good ts) g in
+    let b : all_good ts ≡ true = both-right (is_bits64 n) (all_good ts) g in
+    any_gap l (Int n) _ _
+    (subst (λ z. Scans z (Int n ∷ ts)) (sym (assoc (signed_decimal n) (110 ∷ []) (laid other ts tail)))
+    (next (begins_int n _ a) (round other ts tail b s h)))
+round l (Text t ∷ ts) tail g s h =
+    let a : is_utf8 t ≡ true = both-left (is_utf8 t) (all_good ts) g in
+    let b : all_good ts ≡ true = both-right (is_utf8 t) (all_good ts) g in
+    any_gap l (Text t) _ _
+    (subst (λ z. Scans (34 ∷ z) (Text t ∷ ts)) (sym (assoc (escaped t) (34 ∷ []) (laid other ts tail)))
+    (next (begins_text t _ a) (round other ts tail b s h)))
+round l (Mark m ∷ ts) tail g s h =
+    let a : is_mark m ≡ true = both-left (is_mark m) (all_good ts) g in
+    let b : all_good ts ≡ true = both-right (is_mark m) (all_good ts) g in
+    any_gap l (Mark m) _ _ (next (mark m _ a) (round (left (Mark m)) ts tail b s h))
 
--- digits and `n`: where they end is one place
-digits_end : (u v r s : List ℕ) → all_digits u ≡ true → all_digits v ≡ true → u ++ 110 ∷ r ≡ v ++ 110 ∷ s
-    → (u ≡ v) × (r ≡ s)
-digits_end [] [] r s p q e = (refl, cc)
-digits_end [] (d ∷ v) r s p q e =
-    let is : d ≡ 110 = cc in
-    let f : is_ascii_digit d ≡ true = both-left (is_ascii_digit d) (all_digits v) q in
-    absurd (not_n d is f)
-digits_end (c ∷ u) [] r s p q e =
-    let is : c ≡ 110 = cc in
-    let f : is_ascii_digit c ≡ true = both-left (is_ascii_digit c) (all_digits u) p in
-    absurd (not_n c is f)
-digits_end (c ∷ u) (d ∷ v) r s p q e =
-    let is : c ≡ d = cc in
-    let t : u ++ 110 ∷ r ≡ v ++ 110 ∷ s = cc in
-    let h = digits_end u v r s (both-right (is_ascii_digit c) (all_digits u) p)
-    (both-right (is_ascii_digit d) (all_digits v) q) t in
-    (cc, h.1)
-
-number_digits : (ds : List ℕ) → IsNumber ds → all_digits ds ≡ true
-number_digits [] h = absurd h
-number_digits (d ∷ ds) h = both (is_ascii_digit d) (all_digits ds) h.0 h.1
-
--- a size of 64 bits
-small : (minus : Bool) (k : ℕ) → is_bits64 (signed minus k) ≡ true → k < 2 ^ 64
-small true k h = grind (arith, ints, nat_tests)
-small false k h = grind (arith, ints, nat_tests)
-
--- the first byte of a number behind a sign
-starts : (ds rest : List ℕ) → IsNumber ds → (c : ℕ) × (cs : List ℕ) × (ds ++ rest ≡ c ∷ cs) × (kind c ≡ Number)
-starts [] rest h = absurd h
-starts (d ∷ ds) rest h = (d, ds ++ rest, refl, kind-digit d h.0)
-
-signed_starts : (minus : Bool) (ds rest : List ℕ) → IsNumber ds
-    → (c : ℕ) × (cs : List ℕ) × (sign minus ++ (ds ++ rest) ≡ c ∷ cs) × (kind c ≡ Number)
-signed_starts true ds rest h = (45, ds ++ rest, refl, kind-minus)
-signed_starts false ds rest h = starts ds rest h
-
-size_small : {text rest : List ℕ} {n : ℤ} (i : BeginsInt text n rest) → i.size < 2 ^ 64
-size_small i = small i.minus i.size (subst (λ z. is_bits64 z ≡ true) i.value i.bits64)
-
-int_starts : {text rest : List ℕ} {n : ℤ} → BeginsInt text n rest
-    → (c : ℕ) × (cs : List ℕ) × (text ≡ c ∷ cs) × (kind c ≡ Number)
-int_starts {rest = rest} i =
-    let h = signed_starts i.minus (decimal i.size) (110 ∷ rest) (decimal_is_number i.size (size_small i)) in
-    (h.0, h.1, i.written ∙ h.2, h.3)
-
--- two readings of one integer
-same_unsigned : (k l : ℕ) (r s : List ℕ) → k < 2 ^ 64 → l < 2 ^ 64 → decimal k ++ 110 ∷ r ≡ decimal l ++ 110 ∷ s
-    → (k ≡ l) × (r ≡ s)
-same_unsigned k l r s p q e =
-    let h = digits_end (decimal k) (decimal l) r s (number_digits _ (decimal_is_number k p))
-    (number_digits _ (decimal_is_number l q)) e in (decimal_injective k l p q h.0, h.1)
-
--- no number begins with a minus
-no_minus : (ds rest text : List ℕ) → IsNumber ds → ds ++ rest ≡ 45 ∷ text → ⊥
-no_minus [] rest text h e = h
-no_minus (d ∷ ds) rest text h e = let is : d ≡ 45 = cc in minus_no_digit d is h.0
-
-same_signed : (a b : Bool) (k l : ℕ) (r s : List ℕ) → k < 2 ^ 64 → l < 2 ^ 64
-    → sign a ++ (decimal k ++ 110 ∷ r) ≡ sign b ++ (decimal l ++ 110 ∷ s) → (signed a k ≡ signed b l) × (r ≡ s)
-same_signed true true k l r s p q e =
-    let t : decimal k ++ 110 ∷ r ≡ decimal l ++ 110 ∷ s = cc in let h = same_unsigned k l r s p q t in
-    (ap (signed true) h.0, h.1)
-same_signed true false k l r s p q e = absurd (no_minus (decimal l) (110 ∷ s) _ (decimal_is_number l q) (sym e))
-same_signed false true k l r s p q e = absurd (no_minus (decimal k) (110 ∷ r) _ (decimal_is_number k p) e)
-same_signed false false k l r s p q e = let h = same_unsigned k l r s p q e in (ap (signed false) h.0, h.1)
-
-same_int : {text r s : List ℕ} {m n : ℤ} → BeginsInt text m r → BeginsInt text n s → (m ≡ n) × (r ≡ s)
-same_int {r = r} {s = s} i j =
-    let h = same_signed i.minus j.minus i.size j.size r s (size_small i) (size_small j) (sym i.written ∙ j.written) in
-    (i.value ∙ h.0 ∙ sym j.value, h.1)
-
--- ---- what the rest of a text scans to
-
-no_int : {text rest : List ℕ} {n : ℤ} → BeginsInt text n rest → (b : ℕ) (bs : List ℕ) → text ≡ b ∷ bs → kind b ≡ Number
-no_int i b bs e = let h = int_starts i in let is : h.0 ≡ b = cc (h.2, e) in subst (λ z. kind z ≡ Number) is h.3
-
-end_next : {us : List Token} → Scans [] us → us ≡ []
-end_next end = refl
-end_next (int n text rest tokens i d) = let h = int_starts i in let f : [] ≡ h.0 ∷ h.1 = h.2 in absurd cc
-
-blank_next : {b : ℕ} {bs : List ℕ} {us : List Token} → is_blank b ≡ true → Scans (b ∷ bs) us → Scans bs us
-blank_next p (blank b text tokens q d) = d
-blank_next p (comment text tokens d) = let x = kind-blank 47 p in let y = kind-slash 47 refl in absurd cc
-blank_next p (word b text tokens q d) = let x = kind-blank b p in let y = kind-letter b q in absurd cc
-blank_next {b = b} {bs = bs} p (int n text rest tokens i d) =
-    let x = kind-blank b p in let y = no_int i b bs refl in absurd cc
-blank_next p (mark b text tokens q d) = let x = kind-blank b p in let y = kind-mark b q in absurd cc
-
-comment_next : {b c : ℕ} {bs : List ℕ} {us : List Token} → b ≡ 47 → Scans (b ∷ c ∷ bs) us → Scans (past_line bs) us
-comment_next p (blank b text tokens q d) = let x = kind-blank b q in let y = kind-slash b p in absurd cc
-comment_next p (comment text tokens d) = d
-comment_next p (word b text tokens q d) = let x = kind-letter b q in let y = kind-slash b p in absurd cc
-comment_next {b = b} {c = c} {bs = bs} p (int n text rest tokens i d) =
-    let x = kind-slash b p in let y = no_int i b (c ∷ bs) refl in absurd cc
-comment_next p (mark b text tokens q d) = let x = kind-mark b q in let y = kind-slash b p in absurd cc
-
-word_next : {b : ℕ} {bs : List ℕ} {us : List Token} → is_ascii_alphabetic b ≡ true → Scans (b ∷ bs) us
-    → (vs : List Token) × (us ≡ Word (b ∷ word_part bs) ∷ vs) × Scans (past_word bs) vs
-word_next p (blank b text tokens q d) = let x = kind-blank b q in let y = kind-letter b p in absurd cc
-word_next p (comment text tokens d) = let x = kind-letter 47 p in let y = kind-slash 47 refl in absurd cc
-word_next p (word b text tokens q d) = (tokens, refl, d)
-word_next {b = b} {bs = bs} p (int n text rest tokens i d) =
-    let x = kind-letter b p in let y = no_int i b bs refl in absurd cc
-word_next p (mark b text tokens q d) = let x = kind-letter b p in let y = kind-mark b q in absurd cc
-
-mark_next : {b : ℕ} {bs : List ℕ} {us : List Token} → is_mark b ≡ true → Scans (b ∷ bs) us
-    → (vs : List Token) × (us ≡ Mark b ∷ vs) × Scans bs vs
-mark_next p (blank b text tokens q d) = let x = kind-blank b q in let y = kind-mark b p in absurd cc
-mark_next p (comment text tokens d) = let x = kind-mark 47 p in let y = kind-slash 47 refl in absurd cc
-mark_next p (word b text tokens q d) = let x = kind-letter b q in let y = kind-mark b p in absurd cc
-mark_next {b = b} {bs = bs} p (int n text rest tokens i d) =
-    let x = kind-mark b p in let y = no_int i b bs refl in absurd cc
-mark_next p (mark b text tokens q d) = (tokens, refl, d)
-
-int_next : {bs r : List ℕ} {n : ℤ} {us : List Token} → BeginsInt bs n r → Scans bs us
-    → (vs : List Token) × (us ≡ Int n ∷ vs) × Scans r vs
-int_next i end = let h = int_starts i in let f : [] ≡ h.0 ∷ h.1 = h.2 in absurd cc
-int_next i (blank b text tokens q d) = let x = kind-blank b q in let y = no_int i b text refl in absurd cc
-int_next i (comment text tokens d) = let x = kind-slash 47 refl in let y = no_int i 47 (47 ∷ text) refl in absurd cc
-int_next i (word b text tokens q d) = let x = kind-letter b q in let y = no_int i b text refl in absurd cc
-int_next i (int m text rest tokens j d) =
-    let h = same_int i j in (tokens, ap (λ z. Int z ∷ tokens) (sym h.0), subst (λ z. Scans z tokens) (sym h.1) d)
-int_next i (mark b text tokens q d) = let x = kind-mark b q in let y = no_int i b text refl in absurd cc
-
--- a text has one list of tokens
-pub scans_once : {text : List ℕ} {ts us : List Token} → Scans text ts → Scans text us → ts ≡ us
-scans_once end e = sym (end_next e)
-scans_once (blank b text tokens p d) e = scans_once d (blank_next p e)
-scans_once (comment text tokens d) e = scans_once d (comment_next refl e)
-scans_once (word b text tokens p d) e =
-    let h = word_next p e in ap (λ z. Word (b ∷ word_part text) ∷ z) (scans_once d h.2) ∙ sym h.1
-scans_once (int n text rest tokens i d) e = let h = int_next i e in ap (λ z. Int n ∷ z) (scans_once d h.2) ∙ sym h.1
-scans_once (mark b text tokens p d) e = let h = mark_next p e in ap (λ z. Mark b ∷ z) (scans_once d h.2) ∙ sym h.1
+-- good tokens, laid out and ended by a line feed, are scanned
+pub layout_scanned : (ts : List Token) → all_good ts ≡ true → Scans (after opens ts ++ 10 ∷ []) ts
+layout_scanned ts g =
+    subst (λ z. Scans z ts) (sym (after_laid opens ts (10 ∷ [])))
+    (round opens ts (10 ∷ []) g refl (next (blank 10 [] refl) end))

@@ -1,48 +1,40 @@
--- The tokens of a tree, and the one text that lays them out.
-use Rattle.std.specs.Prelude.{ℕ, List, [], ◌∷◌, ◌++◌, codes, Bool, if◌then◌else◌, ◌==◌, ◌||◌}
+-- The one text that lays out the tokens of a tree.
+use Rattle.std.specs.Prelude.{ℕ, ◌/◌, ◌%◌, List, [], ◌∷◌, ◌++◌, codes, Bool, if◌then◌else◌, ◌==◌, ◌||◌, nat_lt}
+use Rattle.std.specs.Char.{digit_char}
+use Rattle.std.specs.Fmt.{signed_decimal}
 use Rattle.std.specs.Str.{bytes_eq}
-use Rattle.qc_js.specs.declared.tree.Function.{Function}
-use Rattle.qc_js.specs.declared.tree.Function.TheVariants.{Add, Negate, Sum}
-use Rattle.qc_js.specs.declared.tree.Expr.{Expr}
-use Rattle.qc_js.specs.declared.tree.Expr.TheOpen.{Expr-F}
-use Rattle.qc_js.specs.declared.tree.Expr.TheFolds.{fold-Expr}
-use Rattle.qc_js.specs.declared.tree.Js.{Js}
-use Rattle.qc_js.specs.Token.{Token, Word, Int, Mark, spelling, open_paren, close_paren, open_brace, close_brace}
-use Rattle.qc_js.specs.Token.{open_square, close_square, comma, semicolon, dot}
+use Rattle.qc_js.specs.declared.token.Token.{Token}
+use Rattle.qc_js.specs.declared.token.Token.TheVariants.{Word, Int, Text, Mark}
+use Rattle.qc_js.specs.declared.tree.Program.{Program}
+use Rattle.qc_js.specs.Tokens.{program_tokens}
 
--- the word of a function
-abbrev pub name_of : Function → List ℕ
-name_of Add = codes "add"
-name_of Negate = codes "neg"
-name_of Sum = codes "sum"
+-- how a byte of a text stands in a string: the quote and the backslash behind a backslash, the five control characters
+-- that have a letter by that letter, the others by two hexadecimal digits, and all else as it is
+abbrev pub escaped_byte : ℕ → List ℕ
+escaped_byte b = if b == 34 then codes "\\\""
+    else if b == 92 then codes "\\\\"
+    else if nat_lt 31 b then b ∷ []
+    else if b == 8 then codes "\\b"
+    else if b == 12 then codes "\\f"
+    else if b == 10 then codes "\\n"
+    else if b == 13 then codes "\\r"
+    else if b == 9 then codes "\\t"
+    else codes "\\u00" ++ digit_char (b / 16) ∷ digit_char (b % 16) ∷ []
 
--- each list behind a comma
-abbrev pub after_commas : List (List Token) → List Token
-after_commas [] = []
-after_commas (x ∷ xs) = comma ∷ (x ++ after_commas xs)
+-- what each makes, one after the other
+abbrev pub pieces : {A : Type 0} → (A → List ℕ) → List A → List ℕ
+pieces h [] = []
+pieces h (x ∷ xs) = h x ++ pieces h xs
 
--- the lists with commas between
-abbrev pub separated : List (List Token) → List Token
-separated [] = []
-separated (x ∷ xs) = x ++ after_commas xs
+abbrev pub escaped : List ℕ → List ℕ
+escaped bs = pieces escaped_byte bs
 
--- the tokens of an expression, from those of its members or arguments
-abbrev pub tokens_layer : Expr-F (List Token) → List Token
-tokens_layer (Expr-F.Int n) = Int n ∷ []
-tokens_layer (Expr-F.Array xs) = open_square ∷ (separated xs ++ close_square ∷ [])
-tokens_layer (Expr-F.Call f xs) =
-    Word (codes "rt") ∷ dot ∷ Word (name_of f) ∷ open_paren ∷ (separated xs ++ close_paren ∷ [])
-
--- the tokens of an expression, in order
-abbrev pub expr_tokens : Expr → List Token
-expr_tokens = fold-Expr (List Token) tokens_layer
-
--- the tokens of a program: function query(w, rt) { return and the expression and ; }
-abbrev pub program_tokens : Js → List Token
-program_tokens tree =
-    Word (codes "function") ∷ Word (codes "query") ∷ open_paren ∷ Word (codes "w") ∷ comma ∷ Word (codes "rt") ∷
-    close_paren
-    ∷ open_brace ∷ Word (codes "return") ∷ (expr_tokens tree.result ++ semicolon ∷ close_brace ∷ [])
+-- how a token is written
+abbrev pub spelling : Token → List ℕ
+spelling (Word w) = w
+spelling (Int n) = signed_decimal n ++ 110 ∷ []
+spelling (Text t) = 34 ∷ (escaped t ++ 34 ∷ [])
+spelling (Mark b) = b ∷ []
 
 -- what stands on the left of a gap: one of ( [ . or the word `for` or `if` or anything else
 pub data Left : Type 0 where
@@ -54,6 +46,7 @@ pub data Left : Type 0 where
 abbrev pub left : Token → Left
 left (Word w) = if bytes_eq w (codes "for") || bytes_eq w (codes "if") then keyword else other
 left (Int n) = other
+left (Text t) = other
 left (Mark b) = if (b == 40) || (b == 91) || (b == 46) then opens else other
 
 -- the marks , ; . ) ] that have no space before them
@@ -66,16 +59,17 @@ gap_mark opens b = []
 gap_mark keyword b = if is_tight b then [] else 32 ∷ []
 gap_mark other b = if is_tight b || (b == 40) then [] else 32 ∷ []
 
--- the space before a word or an integer
-abbrev pub gap_word : Left → List ℕ
-gap_word opens = []
-gap_word keyword = 32 ∷ []
-gap_word other = 32 ∷ []
+-- the space before another token
+abbrev pub gap_other : Left → List ℕ
+gap_other opens = []
+gap_other keyword = 32 ∷ []
+gap_other other = 32 ∷ []
 
 -- the space before a token
 abbrev pub gap : Left → Token → List ℕ
-gap l (Word w) = gap_word l
-gap l (Int n) = gap_word l
+gap l (Word w) = gap_other l
+gap l (Int n) = gap_other l
+gap l (Text t) = gap_other l
 gap l (Mark b) = gap_mark l b
 
 -- the tokens, each behind its space, after what stands on the left
@@ -84,5 +78,5 @@ after l [] = []
 after l (t ∷ ts) = gap l t ++ (spelling t ++ after (left t) ts)
 
 -- the text of a tree: its tokens with no space before the first, and a line feed
-abbrev pub layout : Js → List ℕ
-layout tree = after opens (program_tokens tree) ++ 10 ∷ []
+abbrev pub layout : Program → List ℕ
+layout p = after opens (program_tokens p) ++ 10 ∷ []

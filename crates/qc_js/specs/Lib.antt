@@ -1,7 +1,7 @@
 pub mod inner
+pub mod Held
 pub mod Layout
 pub mod Meaning
-pub mod Program
-pub mod Runtime
 pub mod Spelling
-pub mod Token
+pub mod Tokens
+pub mod WellFormed

@@ -1,1 +1,4 @@
+pub mod Adding
+pub mod Good
+pub mod Steps
 pub mod Text

@@ -64,7 +64,15 @@ pub fn word_tree(alloc: Global, text: &str) -> Result<Json, Odd> {
 /// An outcome, as a tree: an object with the value, or the text that tells why there is none.
 pub fn outcome_tree(alloc: Global, outcome: Result<Datum, Halt>) -> Result<Json, Odd> {
     match outcome {
-        Ok(value) => value_tree(alloc, enc(alloc, &value)?),
+        Ok(value) => tree_outcome(alloc, Ok(enc(alloc, &value)?)),
+        Err(halt) => tree_outcome(alloc, Err(halt)),
+    }
+}
+
+/// The same of an outcome that is a tree.
+pub fn tree_outcome(alloc: Global, outcome: Result<Json, Halt>) -> Result<Json, Odd> {
+    match outcome {
+        Ok(value) => value_tree(alloc, value),
         Err(Halt::Range) => word_tree(alloc, "Range"),
         Err(Halt::Stuck) => word_tree(alloc, "Stuck"),
         Err(Halt::Memory) => Err(Odd::Memory),

@@ -16,7 +16,7 @@ mod values;
 mod variables;
 mod worlds;
 
-pub use answers::{Answers, outcome_tree, type_tree, word_tree};
+pub use answers::{Answers, outcome_tree, tree_outcome, type_tree, word_tree};
 pub use calls::{counted, spelled};
 pub use compared::{Compared, fault_text, tree_text, truth_text, type_or_none};
 pub use file::{Rows, run};

@@ -3,6 +3,7 @@
 
 mod bytes;
 mod faults;
+mod runtime;
 mod values;
 
 use qc_rows::{Compared, Form, Odd, Rows, Texts};
@@ -51,6 +52,7 @@ fn came(alloc: Global, texts: &Texts, row: &mut Form) -> Result<String, Odd> {
         "canon" => values::canon_of(alloc, row),
         "dec" => values::encodes(alloc, row),
         "fault_text" => faults::told(alloc, row),
+        "rt" => runtime::applied(alloc, row),
         _ => Err(Odd::Form),
     }
 }

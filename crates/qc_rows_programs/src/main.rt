@@ -1,10 +1,11 @@
-//! The program that tries rows on programs of statements and on imperative programs.
+//! The program that tries rows on programs of statements, on imperative programs and on scripts.
 #![tactic(auto)]
 
 mod imperative;
 mod imperative_expression;
 mod imperative_tree;
 mod outcome;
+mod scripts;
 mod statement_expression;
 mod statement_tree;
 mod statements;
@@ -31,6 +32,7 @@ impl Rows for Programs {
         match kind {
             "statements" => statements::tried(alloc, texts, row),
             "imp" => imperative::tried(alloc, texts, row),
+            "scripts" => scripts::tried(alloc, texts, row),
             _ => Err(Odd::Form),
         }
     }

@@ -1,5 +1,5 @@
 -- Answers of typed queries in worlds.
-use Rattle.std.proofs.Common.{◌≡◌, ◌^◌, ◌-◌, ◌≢◌, ◌⊎◌, inl, inr, sym, ap, subst, ◌∙◌, ℕ, List, IsTrue, pos, negsuc}
+use Rattle.std.proofs.Common.{◌≡◌, ◌^◌, ◌-◌, ◌≢◌, ◌⊎◌, inl, inr, sym, ap, ◌∙◌, ℕ, List, pos, negsuc}
 use Rattle.qc_data.specs.declared.data.Datum.{Datum}
 use Rattle.qc_data.specs.declared.halt.Halt.{Halt}
 use Rattle.qc_data.specs.declared.halt.Halt.TheVariants as halt

@@ -1,24 +1,33 @@
 -- The expression that a query becomes answers the encoding of the query's answer, in each mode and world, and its calls
 -- have as many arguments as their functions take.
-use Rattle.std.proofs.Common.{◌≡◌, ◌∙◌, ap, refl, sym, subst, List, [], ◌∷◌, ℤ, ◌==◌, ◌++◌, true, map, Option, Some}
+use Rattle.std.proofs.Common.{◌≡◌, ◌∙◌, ap, refl, sym, subst, Bool, List, [], ◌∷◌, ℤ, ◌==◌, ◌&&◌, ◌++◌, true, map}
+use Rattle.std.proofs.Common.{length}
+use Rattle.std.proofs.Common.{Option, Some}
 use Rattle.qc_data.specs.declared.data.Datum.{Datum}
+use Rattle.qc_data.specs.declared.data.Datum.TheOpen.{Datum-F}
+use Rattle.qc_data.specs.declared.data.Datum.TheFolds.{fold-roll-Datum}
+use Rattle.qc_data.specs.declared.data.Datum.TheVariants as datum
 use Rattle.qc_data.specs.declared.data.Json.{Json}
 use Rattle.qc_data.specs.declared.data.Json.TheVariants as json
 use Rattle.qc_data.specs.Encoding.{enc, encoded}
-use Rattle.qc_data.specs.Kinds.{as_int, as_coll, json_int, made, json_made, total}
-use Rattle.qc_data.specs.Outcome.{Mode, Outcome, Value, Halts, and_then, each, alone, in_order}
-use Rattle.qc_data.proofs.Encoded.{enc-Int, enc-Coll, json_int-enc, json_array-enc, json_made-enc}
+use Rattle.qc_data.specs.Kinds.{as_int, as_coll, made, total}
+use Rattle.qc_data.specs.Outcome.{Mode, Outcome, Value, Halts, and_then, bound, each, alone}
+use Rattle.qc_data.proofs.Encoded.{enc-Int, enc-Coll, json_int-enc, json_array-enc}
 use Rattle.qc_types.specs.Classes.{Defs}
 use Rattle.qc_types.specs.Schemas.{WorldOf}
 use Rattle.qc_js.specs.declared.tree.Expr.{Expr}
-use Rattle.qc_js.specs.declared.tree.Expr.TheVariants.{Int, Array}
-use Rattle.qc_js.specs.declared.tree.Function.{Function}
-use Rattle.qc_js.specs.declared.tree.Function.TheVariants.{Add, Negate, Sum}
-use Rattle.qc_js.specs.Meaning.{js_expr}
-use Rattle.qc_js.specs.Program.{all_true, arity, has_arities}
-use Rattle.qc_js.specs.Runtime.{call}
-use Rattle.qc_js.proofs.Forms.{has_arities-Int, has_arities-Array, has_arities-Call}
-use Rattle.qc_js.proofs.Meanings.{js_expr-Int, js_expr-Array, js_expr-Call}
+use Rattle.qc_js.specs.declared.tree.Expr.TheOpen.{Expr-F}
+use Rattle.qc_js.specs.declared.tree.Expr.TheFolds.{fold-roll-Expr}
+use Rattle.qc_js.specs.declared.tree.Expr.TheVariants.{Int, Array, Call, rolls-Int, rolls-Array, rolls-Call}
+use Rattle.qc_js.specs.Held.{all_true}
+use Rattle.qc_js.specs.Meaning.{Reading, expr, expr_form, values_of}
+use Rattle.qc_js.specs.WellFormed.{expr_fits, expr_layer}
+use Rattle.qc_rt.specs.declared.function.Rt.{Rt}
+use Rattle.qc_rt.specs.declared.function.Rt.TheVariants as rt
+use Rattle.qc_rt.specs.Runtime.{runtime}
+use Rattle.qc_rt.specs.Seen.{seen, shown, shown_step}
+use Rattle.qc_rt.specs.Table.{arguments_of}
+use Rattle.qc_rt.proofs.SeenLaws.{as_int-seen, as_coll-seen}
 use Rattle.qc_ops.specs.Numbers.{addition}
 use Rattle.qc_ops.specs.Operands.{bag}
 use Rattle.qc_oql_tree.specs.declared.tree.Binary.{Binary}
@@ -45,75 +54,130 @@ use Rattle.qc_work.specs.Lowering.{all_there, called_one, called_two, lower_form
 
 -- ---- the runtime's functions on encodings
 
-int_made : (m : Mode) (f : ℤ → ℤ) (o : Outcome ℤ)
-    → and_then o (λ n. json_made m (f n)) ≡ encoded (and_then o (λ n. made m (f n)))
-int_made m f (Value n) = json_made-enc m (f n)
-int_made m f (Halts why) = refl
+-- what is seen in an encoding is an integer or a collection where the datum is
+int_seen : (d : Datum) → as_int (seen (enc d)) ≡ as_int d
+int_seen d = as_int-seen (enc d) ∙ json_int-enc d
 
-ints_made : (m : Mode) (f : ℤ → ℤ → ℤ) (o p : Outcome ℤ)
-    → and_then o (λ n. and_then p (λ k. json_made m (f n k)))
+coll_seen : (d : Datum) → as_coll (seen (enc d))
+    ≡ and_then (and_then (as_coll d) (λ ds. Value (map enc ds))) (λ js. Value (map seen js))
+coll_seen d = as_coll-seen (enc d) ∙ ap (λ o. and_then o (λ js. Value (map seen js))) (json_array-enc d)
+
+ints_seen : (ds : List Datum) → each as_int (map seen (map enc ds)) ≡ each as_int ds
+ints_seen [] = refl
+ints_seen (d ∷ ds) = rw (int_seen d, ints_seen ds) refl
+
+shown-Int : (n : ℤ) → shown (datum.Int n) ≡ json.Int n
+shown-Int n =
+    ap shown (sym (datum.rolls-Int n))
+    ∙ ap (λ p. p.1) (fold-roll-Datum (Bool × Json) shown_step (Datum-F.Int n))
+
+-- an integer that a function makes is shown as its encoding
+shown_bound : (o : Outcome ℤ)
+    → and_then (and_then o (λ k. Value (datum.Int k))) (λ d. Value (shown d))
+    ≡ encoded (and_then o (λ k. Value (datum.Int k)))
+shown_bound (Value n) = ap Value (shown-Int n ∙ sym (enc-Int n))
+shown_bound (Halts why) = refl
+
+int_shown : (m : Mode) (f : ℤ → ℤ) (o : Outcome ℤ)
+    → and_then (and_then o (λ n. made m (f n))) (λ d. Value (shown d)) ≡ encoded (and_then o (λ n. made m (f n)))
+int_shown m f (Value n) = shown_bound (bound m (f n))
+int_shown m f (Halts why) = refl
+
+ints_shown : (m : Mode) (f : ℤ → ℤ → ℤ) (o p : Outcome ℤ)
+    → and_then (and_then o (λ n. and_then p (λ k. made m (f n k)))) (λ d. Value (shown d))
     ≡ encoded (and_then o (λ n. and_then p (λ k. made m (f n k))))
-ints_made m f (Value n) p = int_made m (f n) p
-ints_made m f (Halts why) p = refl
+ints_shown m f (Value n) p = int_shown m (f n) p
+ints_shown m f (Halts why) p = refl
 
-ints_agree : (ds : List Datum) → each json_int (map enc ds) ≡ each as_int ds
-ints_agree [] = refl
-ints_agree (d ∷ ds) = rw (json_int-enc d, ints_agree ds) refl
+total_shown : (m : Mode) (o : Outcome (List ℤ))
+    → and_then (and_then o (λ ns. made m (total ns))) (λ d. Value (shown d))
+    ≡ encoded (and_then o (λ ns. made m (total ns)))
+total_shown m (Value ns) = shown_bound (bound m (total ns))
+total_shown m (Halts why) = refl
 
-total_made : (m : Mode) (o : Outcome (List ℤ))
-    → and_then o (λ ns. json_made m (total ns)) ≡ encoded (and_then o (λ ns. made m (total ns)))
-total_made m (Value ns) = json_made-enc m (total ns)
-total_made m (Halts why) = refl
-
-sum_made : (m : Mode) (o : Outcome (List Datum))
-    → and_then (and_then o (λ xs. Value (map enc xs)))
-    (λ js. and_then (each json_int js) (λ ns. json_made m (total ns)))
+sum_shown : (m : Mode) (o : Outcome (List Datum))
+    → and_then (and_then (and_then
+    (and_then (and_then o (λ ds. Value (map enc ds))) (λ js. Value (map seen js))) (λ xs. each as_int xs))
+    (λ ns. made m (total ns))) (λ d. Value (shown d))
     ≡ encoded (and_then (and_then o (λ xs. each as_int xs)) (λ ns. made m (total ns)))
-sum_made m (Value ds) = rw (ints_agree ds) (total_made m (each as_int ds))
-sum_made m (Halts why) = refl
+sum_shown m (Value ds) = rw (ints_seen ds) (total_shown m (each as_int ds))
+sum_shown m (Halts why) = refl
 
--- calls whose arguments have encoded outcomes
+-- arguments that have encoded outcomes
 one_argument : (o : Outcome Datum) (f : Datum → Outcome Datum) (g : List Json → Outcome Json)
-    → ((d : Datum) → g (enc d ∷ []) ≡ encoded (f d)) → and_then (in_order (encoded o ∷ [])) g ≡ encoded (and_then o f)
+    → ((d : Datum) → g (enc d ∷ []) ≡ encoded (f d))
+    → and_then (and_then (encoded o) (λ j. Value (j ∷ []))) g ≡ encoded (and_then o f)
 one_argument (Value d) f g h = h d
 one_argument (Halts why) f g h = refl
 
 two_arguments : (o p : Outcome Datum) (f : Datum → Datum → Outcome Datum) (g : List Json → Outcome Json)
     → ((a b : Datum) → g (enc a ∷ enc b ∷ []) ≡ encoded (f a b))
-    → and_then (in_order (encoded o ∷ encoded p ∷ [])) g ≡ encoded (and_then o (λ a. and_then p (λ b. f a b)))
+    → and_then (and_then (encoded o) (λ i. and_then (and_then (encoded p) (λ j. Value (j ∷ [])))
+    (λ js. Value (i ∷ js)))) g ≡ encoded (and_then o (λ a. and_then p (λ b. f a b)))
 two_arguments (Value a) (Value b) f g h = h a b
 two_arguments (Value a) (Halts why) f g h = refl
 two_arguments (Halts why) p f g h = refl
 
 -- operators that are functions of the runtime
-arity_one : (op : Unary) (f : Function) → called_one op ≡ Some f → (1 == arity f) ≡ true
-arity_one unary.Neg Negate e = refl
-arity_one unary.Sum Sum e = refl
+arity_one : (op : Unary) (f : Rt) → called_one op ≡ Some f → (1 == arguments_of f) ≡ true
+arity_one unary.Neg rt.Neg e = refl
+arity_one unary.Sum rt.Sum e = refl
 arity_one op f e = absurd (cc)
 
-one_agree : (m : Mode) (c : Defs) (op : Unary) (f : Function) → called_one op ≡ Some f → (d : Datum)
-    → call m f (enc d ∷ []) ≡ encoded (one_value m c op d)
-one_agree m c unary.Neg Negate e d = rw (json_int-enc d) (int_made m _ (as_int d))
-one_agree m c unary.Sum Sum e d = rw (json_array-enc d) (sum_made m (as_coll d))
+one_agree : (m : Mode) (c : Defs) (op : Unary) (f : Rt) → called_one op ≡ Some f → (d : Datum)
+    → runtime m f (enc d ∷ []) ≡ encoded (one_value m c op d)
+one_agree m c unary.Neg rt.Neg e d = rw (int_seen d) (int_shown m _ (as_int d))
+one_agree m c unary.Sum rt.Sum e d = rw (coll_seen d) (sum_shown m (as_coll d))
 one_agree m c op f e d = absurd (cc)
 
-arity_two : (op : Binary) (f : Function) → called_two op ≡ Some f → (2 == arity f) ≡ true
-arity_two binary.Add Add e = refl
+arity_two : (op : Binary) (f : Rt) → called_two op ≡ Some f → (2 == arguments_of f) ≡ true
+arity_two binary.Add rt.Add e = refl
 arity_two op f e = absurd (cc)
 
-two_agree : (m : Mode) (op : Binary) (f : Function) → called_two op ≡ Some f → (a b : Meaning) (s : Bindings)
-    → and_then (in_order (encoded (a s) ∷ encoded (b s) ∷ [])) (call m f) ≡ encoded (of_two m op a b s)
-two_agree m binary.Add Add e a b s =
-    two_arguments (a s) (b s) (addition m) (call m Add)
-    (λ x y. rw (json_int-enc x, json_int-enc y) (ints_made m _ (as_int x) (as_int y)))
+two_agree : (m : Mode) (op : Binary) (f : Rt) → called_two op ≡ Some f → (a b : Meaning) (s : Bindings)
+    → and_then (and_then (encoded (a s)) (λ i. and_then (and_then (encoded (b s)) (λ j. Value (j ∷ [])))
+    (λ js. Value (i ∷ js)))) (runtime m f) ≡ encoded (of_two m op a b s)
+two_agree m binary.Add rt.Add e a b s =
+    two_arguments (a s) (b s) (addition m) (runtime m rt.Add)
+    (λ x y. rw (int_seen x, int_seen y) (ints_shown m _ (as_int x) (as_int y)))
 two_agree m op f e a b s = absurd (cc)
+
+-- ---- expressions by their forms
+
+fits-Int : (n : ℤ) → expr_fits [] (Int n) ≡ true
+fits-Int n = ap (expr_fits []) (sym (rolls-Int n)) ∙ fold-roll-Expr Bool (expr_layer []) (Expr-F.Int n)
+
+fits-Array : (es : List Expr) → expr_fits [] (Array es) ≡ all_true (map (expr_fits []) es)
+fits-Array es = ap (expr_fits []) (sym (rolls-Array es)) ∙ fold-roll-Expr Bool (expr_layer []) (Expr-F.Array es)
+
+fits-Call : (f : Rt) (es : List Expr) → expr_fits [] (Call f es)
+    ≡ ((length (map (expr_fits []) es) == arguments_of f) && all_true (map (expr_fits []) es))
+fits-Call f es = ap (expr_fits []) (sym (rolls-Call f es)) ∙ fold-roll-Expr Bool (expr_layer []) (Expr-F.Call f es)
+
+module _ (m : Mode) (w : Json) where
+  expr-Int : (n : ℤ) → expr m w (Int n) [] ≡ Value (json.Int n)
+  expr-Int n =
+      ap (λ e. expr m w e []) (sym (rolls-Int n))
+      ∙ ap (λ (r : Reading). r []) (fold-roll-Expr Reading (expr_form m w) (Expr-F.Int n))
+
+  expr-Array : (es : List Expr) → expr m w (Array es) []
+      ≡ and_then (values_of (map (expr m w) es) []) (λ js. Value (json.Array js))
+  expr-Array es =
+      ap (λ e. expr m w e []) (sym (rolls-Array es))
+      ∙ ap (λ (r : Reading). r []) (fold-roll-Expr Reading (expr_form m w) (Expr-F.Array es))
+
+  expr-Call : (f : Rt) (es : List Expr) → expr m w (Call f es) []
+      ≡ and_then (values_of (map (expr m w) es) []) (runtime m f)
+  expr-Call f es =
+      ap (λ e. expr m w e []) (sym (rolls-Call f es))
+      ∙ ap (λ (r : Reading). r []) (fold-roll-Expr Reading (expr_form m w) (Expr-F.Call f es))
 
 -- ---- trees with what they become
 
 -- the expression answers the encoding of what the meaning gives, and its calls have their arguments
 pub record IsFaithful (meaning : Mode → WorldOf → Meaning) (e : Expr) : Type 0 where
-  pub arities : has_arities e ≡ true
-  pub agrees : (m : Mode) (w : WorldOf) (s : Bindings) → js_expr m e (enc w.datum) ≡ encoded (meaning m w s)
+  pub fits : expr_fits [] e ≡ true
+  pub agrees : (m : Mode) (w : WorldOf) (s : Bindings) → expr m (enc w.datum) e [] ≡ encoded (meaning m w s)
 
 abbrev OfOql : Oql → Type 0
 OfOql x = (e : Expr) → lower x ≡ Some e → IsFaithful (λ m w. oql m w x) e
@@ -148,7 +212,7 @@ meaning_at x m w =
 
 -- a member and the others
 cons_agree : (o : Outcome Datum) (os : Outcome (List Datum))
-    → and_then (alone (encoded o)) (λ ys. and_then (and_then os (λ ds. Value (map enc ds))) (λ zs. Value (ys ++ zs)))
+    → and_then (encoded o) (λ j. and_then (and_then os (λ ds. Value (map enc ds))) (λ js. Value (j ∷ js)))
     ≡ and_then (and_then (alone o) (λ ys. and_then os (λ zs. Value (ys ++ zs)))) (λ ds. Value (map enc ds))
 cons_agree (Value d) (Value ds) = refl
 cons_agree (Value d) (Halts why) = refl
@@ -160,13 +224,13 @@ array_made (Value ds) = ap Value (sym (enc-Coll ds))
 array_made (Halts why) = refl
 
 record AreSame (ps : List Part) (es : List Expr) : Type 0 where
-  arities : all_true (map has_arities es) ≡ true
+  fits : all_true (map (expr_fits []) es) ≡ true
   agrees : (m : Mode) (w : WorldOf) (s : Bindings)
-      → each (λ e. js_expr m e (enc w.datum)) es
+      → values_of (map (expr m (enc w.datum)) es) []
       ≡ and_then (each (λ member. member s) (map (oql m w) (map (λ p. p.0) ps))) (λ ds. Value (map enc ds))
 
 members : (ps : List Part) (es : List Expr) → all_there (map lower (map (λ p. p.0) ps)) ≡ Some es → AreSame ps es
-members [] [] h = record { arities = refl; agrees = λ m w s. refl }
+members [] [] h = record { fits = refl; agrees = λ m w s. refl }
 members [] (e ∷ es) h = absurd (cc)
 members (p ∷ ps) es h =
     let a = there _ (lower p.0) es h in
@@ -174,7 +238,7 @@ members (p ∷ ps) es h =
     let first = p.1 a.0 a.1 in
     let rest = members ps b.0 b.1 in
     subst (AreSame (p ∷ ps)) b.2 (record {
-      arities = rw (first.arities, rest.arities) refl;
+      fits = rw (first.fits, rest.fits) refl;
       agrees = λ m w s. rw (first.agrees m w s, rest.agrees m w s)
           (cons_agree (oql m w p.0 s) (each (λ member. member s) (map (oql m w) (map (λ p. p.0) ps))));
     })
@@ -183,15 +247,15 @@ layer : (p : Parts) (e : Expr) → lower_at (trees p) ≡ Some e → IsFaithful 
 layer (Oql-F.Whole at n) e h =
     let is : Int n ≡ e = let one : Some (Int n) ≡ Some e = h in cc in
     subst (IsFaithful (meaning_at (trees (Oql-F.Whole at n)))) is (record {
-      arities = has_arities-Int n;
-      agrees = λ m w s. js_expr-Int m n (enc w.datum) ∙ ap Value (sym (enc-Int n));
+      fits = fits-Int n;
+      agrees = λ m w s. expr-Int m (enc w.datum) n ∙ ap Value (sym (enc-Int n));
     })
 layer (Oql-F.Bag at ps) e h =
     let a = mapped Array (all_there (map lower (map (λ p. p.0) ps))) e h in
     let all = members ps a.0 a.1 in
     subst (IsFaithful (meaning_at (trees (Oql-F.Bag at ps)))) a.2 (record {
-      arities = rw (has_arities-Array a.0) all.arities;
-      agrees = λ m w s. rw (js_expr-Array m a.0 (enc w.datum), all.agrees m w s)
+      fits = rw (fits-Array a.0) all.fits;
+      agrees = λ m w s. rw (expr-Array m (enc w.datum) a.0, all.agrees m w s)
           (array_made (each (λ member. member s) (map (oql m w) (map (λ p. p.0) ps))));
     })
 layer (Oql-F.Unary at op p) e h =
@@ -199,9 +263,9 @@ layer (Oql-F.Unary at op p) e h =
     let b = mapped _ (lower p.0) e a.2 in
     let part = p.1 b.0 b.1 in
     subst (IsFaithful (meaning_at (trees (Oql-F.Unary at op p)))) b.2 (record {
-      arities = rw (has_arities-Call a.0 (b.0 ∷ []), part.arities, arity_one op a.0 a.1) refl;
-      agrees = λ m w s. rw (js_expr-Call m a.0 (b.0 ∷ []) (enc w.datum), part.agrees m w s)
-          (one_argument (oql m w p.0 s) (one_value m w.classes op) (call m a.0) (one_agree m w.classes op a.0 a.1));
+      fits = rw (fits-Call a.0 (b.0 ∷ []), part.fits, arity_one op a.0 a.1) refl;
+      agrees = λ m w s. rw (expr-Call m (enc w.datum) a.0 (b.0 ∷ []), part.agrees m w s)
+          (one_argument (oql m w p.0 s) (one_value m w.classes op) (runtime m a.0) (one_agree m w.classes op a.0 a.1));
     })
 layer (Oql-F.Binary at op p q) e h =
     let a = there _ (called_two op) e h in
@@ -210,8 +274,8 @@ layer (Oql-F.Binary at op p q) e h =
     let left = p.1 b.0 b.1 in
     let right = q.1 c.0 c.1 in
     subst (IsFaithful (meaning_at (trees (Oql-F.Binary at op p q)))) c.2 (record {
-      arities = rw (has_arities-Call a.0 (b.0 ∷ c.0 ∷ []), left.arities, right.arities, arity_two op a.0 a.1) refl;
-      agrees = λ m w s. rw (js_expr-Call m a.0 (b.0 ∷ c.0 ∷ []) (enc w.datum), left.agrees m w s, right.agrees m w s)
+      fits = rw (fits-Call a.0 (b.0 ∷ c.0 ∷ []), left.fits, right.fits, arity_two op a.0 a.1) refl;
+      agrees = λ m w s. rw (expr-Call m (enc w.datum) a.0 (b.0 ∷ c.0 ∷ []), left.agrees m w s, right.agrees m w s)
           (two_agree m op a.0 a.1 (oql m w p.0) (oql m w q.0) s);
     })
 layer p e h = absurd (cc)
@@ -226,7 +290,7 @@ of_oql x h e is =
     (λ n. tt) (λ o. tt) (λ s. tt) x in
     let r = h e (sym low ∙ is) in
     record {
-      arities = r.arities;
+      fits = r.fits;
       agrees = λ m w s. rw (fold-roll-Oql Meaning Meaning KeyMeaning NamedMeaning (List KeyMeaning) Meaning
           (form m w) filter_form key_form named_form order_form select_form x) (r.agrees m w s);
     }

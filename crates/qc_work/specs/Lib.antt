@@ -5,4 +5,5 @@ pub mod Reading
 pub mod Refusals
 pub mod Right
 pub mod Sources
+pub mod Texts
 pub mod Work

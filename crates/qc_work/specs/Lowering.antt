@@ -2,8 +2,6 @@
 use Rattle.std.specs.Prelude.{List, [], ◌∷◌, Option, Some, None, option_map, option_and_then}
 use Rattle.qc_js.specs.declared.tree.Expr.{Expr}
 use Rattle.qc_js.specs.declared.tree.Expr.TheVariants.{Int, Array, Call}
-use Rattle.qc_js.specs.declared.tree.Function.{Function}
-use Rattle.qc_js.specs.declared.tree.Function.TheVariants.{Add, Negate, Sum}
 use Rattle.qc_oql_tree.specs.declared.tree.Binary.{Binary}
 use Rattle.qc_oql_tree.specs.declared.tree.Binary.TheVariants as binary
 use Rattle.qc_oql_tree.specs.declared.tree.Oql.{Oql}
@@ -12,6 +10,8 @@ use Rattle.qc_oql_tree.specs.declared.tree.Oql.TheFolds.{fold-Oql}
 use Rattle.qc_oql_tree.specs.declared.tree.Named.{Named}
 use Rattle.qc_oql_tree.specs.declared.tree.Unary.{Unary}
 use Rattle.qc_oql_tree.specs.declared.tree.Unary.TheVariants as unary
+use Rattle.qc_rt.specs.declared.function.Rt.{Rt}
+use Rattle.qc_rt.specs.declared.function.Rt.TheVariants as rt
 use Rattle.qc_work.specs.declared.sources.Query.{Query}
 use Rattle.qc_work.specs.declared.sources.Query.TheVariants as query
 
@@ -21,21 +21,21 @@ all_there [] = Some []
 all_there (o ∷ os) = option_and_then (λ a. option_map (λ more. a ∷ more) (all_there os)) o
 
 -- the function of the runtime that an operator is, if there is one yet
-abbrev pub called_one : Unary → Option Function
-called_one unary.Neg = Some Negate
-called_one unary.Sum = Some Sum
+abbrev pub called_one : Unary → Option Rt
+called_one unary.Neg = Some rt.Neg
+called_one unary.Sum = Some rt.Sum
 called_one _ = None
 
-abbrev pub called_two : Binary → Option Function
-called_two binary.Add = Some Add
+abbrev pub called_two : Binary → Option Rt
+called_two binary.Add = Some rt.Add
 called_two _ = None
 
 -- a call of one argument, where the function and the argument are there
-abbrev pub call_one : Option Function → Option Expr → Option Expr
+abbrev pub call_one : Option Rt → Option Expr → Option Expr
 call_one f a = option_and_then (λ f. option_map (λ e. Call f (e ∷ [])) a) f
 
 -- a call of two arguments
-abbrev pub call_two : Option Function → Option Expr → Option Expr → Option Expr
+abbrev pub call_two : Option Rt → Option Expr → Option Expr → Option Expr
 call_two f a b = option_and_then (λ f. option_and_then (λ e. option_map (λ d. Call f (e ∷ d ∷ [])) b) a) f
 
 -- whole numbers, listed bags, and operators that are functions of the runtime, by what their parts become; no other

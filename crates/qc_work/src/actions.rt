@@ -4,44 +4,61 @@ ghost use Rattle.std.specs.String.{string_bytes};
 ghost use Rattle.qc_lang.specs.Keeping.{IsOf};
 ghost use Rattle.qc_work.specs.Work.{line, Check, Compile, Run};
 ghost use Rattle.qc_work.specs.Promises.{Acts, HasItsType};
+ghost use Rattle.qc_work.specs.Texts.{bytes_of};
 
 use crate::lower::lower_query;
 use crate::refusal::Refusal;
 use crate::sources::{Checked, evaluate, type_of};
-use qc_containers::Memory;
+use qc_containers::{List, Memory};
 use qc_data::Halt;
-use qc_js::{Js, emit_text};
+use qc_js::{Js, Program, held};
+use qc_js_text::one_program;
 use qc_schema::{datum_text, type_text};
 use qc_types::World;
 use std::alloc::Global;
 
-/// The JSON of the query's type and a line feed.
-pub fn type_line(alloc: Global, checked: &Checked) -> Result<String, Refusal>
-    ensures { Acts string_bytes (Check checked.now) result }
-{
-    let text = type_text(alloc, type_of(&checked.query))?;
-    Ok(line(string_of(alloc, text.as_str())?)?)
+/// A text that an action gives.
+#[derive(Drop)]
+pub enum Text {
+    /// A line.
+    Line(String),
+    /// The layout of a program.
+    Program(Js),
 }
 
-/// The text of the query's program, where it is compiled.
-pub fn program_text(alloc: Global, checked: &Checked) -> Result<String, Refusal>
+/// The JSON of the query's type and a line feed.
+pub fn type_line(alloc: Global, checked: &Checked) -> Result<Text, Refusal>
+    ensures { Acts bytes_of (Check checked.now) result }
+{
+    let text = type_text(alloc, type_of(&checked.query))?;
+    let text = string_of(alloc, text.as_str())?;
+    Ok(Text::Line(line(text)?))
+}
+
+/// The query's program, where it is compiled.
+pub fn program_text(alloc: Global, checked: &Checked) -> Result<Text, Refusal>
     requires typed { HasItsType checked.now.schema checked.now.query }
-    ensures { Acts string_bytes (Compile checked.now) result }
+    ensures { Acts bytes_of (Compile checked.now) result }
 {
     let Some(result) = lower_query(alloc, &checked.query)? else {
         return Err(Refusal::Unbuilt);
     };
-    Ok(emit_text(alloc, &Js { result })?)
+    let body = List::new(alloc);
+    let program = Program { body, result };
+    held(&program);
+    one_program();
+    let js = Js::of(program);
+    Ok(Text::Program(js))
 }
 
 /// The JSON of the query's answer in a world, and a line feed.
-pub fn answer_line(alloc: Global, checked: &Checked, world: &World) -> Result<String, Refusal>
+pub fn answer_line(alloc: Global, checked: &Checked, world: &World) -> Result<Text, Refusal>
     requires typed { HasItsType checked.now.schema checked.now.query }
     requires world { IsOf checked.now.schema world.now }
-    ensures { Acts string_bytes (Run checked.now world.now) result }
+    ensures { Acts bytes_of (Run checked.now world.now) result }
 {
     match evaluate(alloc, &checked.query, world) {
-        Ok(answer) => Ok(line(datum_text(alloc, &answer)?)?),
+        Ok(answer) => Ok(Text::Line(line(datum_text(alloc, &answer)?)?)),
         Err(Halt::Range) => Err(Refusal::Range),
         Err(Halt::Stuck) => unreachable!(),
         Err(Halt::Memory) => Err(Refusal::Memory),

@@ -7,7 +7,7 @@ mod reading;
 mod refusal;
 mod sources;
 
-pub use actions::{answer_line, program_text, type_line};
+pub use actions::{Text, answer_line, program_text, type_line};
 pub use reading::{input_in, query_in, schema_in, tokens_in};
 pub use refusal::{File, Refusal};
 pub use sources::{Checked, Query, Source};

@@ -6,8 +6,9 @@ ghost use Rattle.qc_work.specs.Lowering.{lower, lower_body, lower_query};
 
 use crate::sources::Query;
 use qc_containers::{List, Memory};
-use qc_js::{Expr, Function};
+use qc_js::Expr;
 use qc_oql_tree::{Binary, Oql, Unary};
+use qc_rt::Rt;
 use std::alloc::Global;
 
 /// The expression that answers as the query does, if the query is compiled.
@@ -50,22 +51,22 @@ fn lower(alloc: Global, query: &Oql) -> Result<Option<Expr>, Memory>
 }
 
 // The function of the runtime that an operator is, if there is one yet.
-fn called_one(op: Unary) -> Option<Function>
+fn called_one(op: Unary) -> Option<Rt>
     ensures { result ≡ called_one op }
 {
     match op {
-        Unary::Neg => Some(Function::Negate),
-        Unary::Sum => Some(Function::Sum),
+        Unary::Neg => Some(Rt::Neg),
+        Unary::Sum => Some(Rt::Sum),
         _ => None,
     }
 }
 
 // The same of operators of two operands.
-fn called_two(op: Binary) -> Option<Function>
+fn called_two(op: Binary) -> Option<Rt>
     ensures { result ≡ called_two op }
 {
     match op {
-        Binary::Add => Some(Function::Add),
+        Binary::Add => Some(Rt::Add),
         _ => None,
     }
 }
@@ -88,7 +89,7 @@ fn lower_bag(alloc: Global, queries: &[Oql]) -> Result<Option<Expr>, Memory>
 // The call of one argument, where the function and the argument are there.
 fn call_one(
     alloc: Global,
-    function: Option<Function>,
+    function: Option<Rt>,
     argument: Option<Expr>,
 ) -> Result<Option<Expr>, Memory>
     ensures { IfOk result (λ expression. expression ≡ call_one function argument) }
@@ -107,7 +108,7 @@ fn call_one(
 // The call of two arguments.
 fn call_two(
     alloc: Global,
-    function: Option<Function>,
+    function: Option<Rt>,
     first: Option<Expr>,
     second: Option<Expr>,
 ) -> Result<Option<Expr>, Memory>

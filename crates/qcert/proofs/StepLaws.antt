@@ -8,7 +8,7 @@ use Rattle.qc_work.specs.declared.refusal.File.{File}
 use Rattle.qc_work.specs.declared.refusal.Refusal.{Refusal}
 use Rattle.qc_work.specs.declared.refusal.Refusal.TheVariants.{ReadFault, Memory}
 use Rattle.qcert.specs.Files.{HasNoText, fetch, read_as, most_of}
-use Rattle.qcert.specs.Steps.{Names, Step, MayEnd, GoesOn, firm, pure, then}
+use Rattle.qcert.specs.Steps.{Names, Step, MayEnd, firm, pure, then}
 
 -- what is accepted need not be refused, and where one refusal must come, no other may
 pub record Lawful {A : Type 0} (t : Texts) (s : Step A) : Type 1 where

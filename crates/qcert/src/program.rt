@@ -1,9 +1,11 @@
 // The top call.
-ghost use Rattle.std.specs.Prelude.{◌≡◌, ◌⊎◌, Ok, Some, map};
+ghost use Rattle.std.specs.Prelude.{◌≡◌, ◌≤◌, ◌⊎◌, Ok, OnErr, OnOk, Some, map};
+ghost use Rattle.std.specs.Io.KnownBytes.{append_known};
 ghost use Rattle.std.specs.Rc.{rc_str_bytes};
-ghost use Rattle.qc_io.specs.Device.{Rose};
+ghost use Rattle.qc_io.specs.Device.{AppendsFront, Rose};
 ghost use Rattle.qc_work.specs.declared.refusal.Refusal.{Refusal as Refused};
 ghost use Rattle.qc_work.specs.Refusals.{status_of};
+ghost use Rattle.qc_work.specs.Texts.{bytes_of};
 ghost use Rattle.qcert.specs.Delivery.{put, Complains, IsDelivered, IsRefusedFor};
 ghost use Rattle.qcert.specs.Jobs.{Subject, Compile, job_of};
 ghost use Rattle.qcert.specs.Ran.{Ran, HasAskedFor, IsServed, IsCompiled, IsServable, IsDue};
@@ -11,8 +13,9 @@ ghost use Rattle.qcert.specs.Steps.{visit};
 
 use crate::serving::ending;
 use crate::telling::tell;
-use qc_io::{Shelf, Sink};
-use qc_work::Refusal;
+use qc_io::{Failed, Shelf, Sink};
+use qc_js::emit;
+use qc_work::{Refusal, Text};
 use std::alloc::Global;
 use std::rc::RcStr;
 
@@ -75,18 +78,31 @@ fn deliver_ending<S: Shelf, O: Sink, E: Sink>(
     ensures same { S.texts shelf.new ≡ S.texts shelf.old }
 {
     match ending(alloc, words, shelf) {
-        Ok(text) => deliver(text.as_str(), out, err),
+        Ok(text) => deliver(&text, out, err),
         Err(refusal) => refuse(refusal, err),
     }
 }
 
-fn deliver<O: Sink, E: Sink>(text: &str, out: &mut O, err: &mut E) -> u8
-    ensures { IsDelivered (Ok text.now) (put O.written O.faults out.old out.new)
+fn deliver<O: Sink, E: Sink>(text: &Text, out: &mut O, err: &mut E) -> u8
+    ensures { IsDelivered (Ok (bytes_of text.now)) (put O.written O.faults out.old out.new)
         (put E.written E.faults err.old err.new) result }
 {
-    match out.put(text.as_bytes()) {
+    match put_text(text, out) {
         Ok(()) => 0,
         Err(_) => refuse(Refusal::WriteFault, err),
+    }
+}
+
+// A program is put piece by piece.
+fn put_text<O: Sink>(text: &Text, out: &mut O) -> Result<(), Failed>
+    ensures ok { OnOk result (O.written out.new ≡ append_known (O.written out.old) (bytes_of text.now)) }
+    ensures err { OnErr result (AppendsFront (O.written out.old) (O.written out.new) (bytes_of text.now)) }
+    ensures failed { OnErr result (Rose (O.faults out.old) (O.faults out.new)) }
+    ensures count { O.faults out.old ≤ O.faults out.new }
+{
+    match text {
+        Text::Line(line) => out.put(line.as_bytes()),
+        Text::Program(js) => emit(js, out),
     }
 }
 

@@ -3,7 +3,7 @@ ghost use Rattle.std.specs.Prelude.{◌≡◌, ◌≤◌, map};
 ghost use Rattle.std.specs.Option.{option_copied};
 ghost use Rattle.std.specs.Result.{result_map_both};
 ghost use Rattle.std.specs.Rc.{rc_str_bytes};
-ghost use Rattle.std.specs.String.{string_bytes};
+ghost use Rattle.qc_work.specs.Texts.{bytes_of};
 ghost use Rattle.qcert.specs.Jobs.{Check, Compile, Run, job_seen, subject_seen};
 ghost use Rattle.qcert.specs.Ran.{IsEnding};
 ghost use Rattle.qcert.specs.Fetching.{serve};
@@ -13,14 +13,14 @@ ghost use Rattle.qcert.specs.inner.Promises.{Stage};
 use crate::job::{Job, Subject, job_of};
 use crate::stages::{checked_in, input_of};
 use qc_io::Shelf;
-use qc_work::{Refusal, answer_line, program_text, type_line};
+use qc_work::{Refusal, Text, answer_line, program_text, type_line};
 use std::alloc::Global;
 use std::rc::RcStr;
 
 /// The text that the words give, or why there is none. No output is touched.
-pub fn ending<S: Shelf>(alloc: Global, words: &[RcStr], shelf: &mut S) -> Result<String, Refusal>
+pub fn ending<S: Shelf>(alloc: Global, words: &[RcStr], shelf: &mut S) -> Result<Text, Refusal>
     ensures ending { IsEnding (map rc_str_bytes words.now) (visit S.texts S.faults S.asked shelf.old shelf.new)
-        (result_map_both string_bytes (λ r. r) result) }
+        (result_map_both bytes_of (λ r. r) result) }
     ensures same { S.texts shelf.new ≡ S.texts shelf.old }
 {
     match job_of(words) {
@@ -30,9 +30,9 @@ pub fn ending<S: Shelf>(alloc: Global, words: &[RcStr], shelf: &mut S) -> Result
 }
 
 // The text that a job gives.
-fn serve<S: Shelf>(alloc: Global, shelf: &mut S, job: &Job<'_>) -> Result<String, Refusal>
+fn serve<S: Shelf>(alloc: Global, shelf: &mut S, job: &Job<'_>) -> Result<Text, Refusal>
     ensures ended { Stage (serve (job_seen job.now)) (visit S.texts S.faults S.asked shelf.old shelf.new)
-        (result_map_both string_bytes (λ r. r) result) }
+        (result_map_both bytes_of (λ r. r) result) }
     ensures same { S.texts shelf.new ≡ S.texts shelf.old }
 {
     match job {
@@ -42,18 +42,18 @@ fn serve<S: Shelf>(alloc: Global, shelf: &mut S, job: &Job<'_>) -> Result<String
     }
 }
 
-fn check<S: Shelf>(alloc: Global, shelf: &mut S, subject: &Subject<'_>) -> Result<String, Refusal>
+fn check<S: Shelf>(alloc: Global, shelf: &mut S, subject: &Subject<'_>) -> Result<Text, Refusal>
     ensures ended { Stage (serve (Check (subject_seen subject.now)))
-        (visit S.texts S.faults S.asked shelf.old shelf.new) (result_map_both string_bytes (λ r. r) result) }
+        (visit S.texts S.faults S.asked shelf.old shelf.new) (result_map_both bytes_of (λ r. r) result) }
     ensures same { S.texts shelf.new ≡ S.texts shelf.old }
 {
     let checked = checked_in(alloc, shelf, subject)?;
     type_line(alloc, &checked)
 }
 
-fn compile<S: Shelf>(alloc: Global, shelf: &mut S, subject: &Subject<'_>) -> Result<String, Refusal>
+fn compile<S: Shelf>(alloc: Global, shelf: &mut S, subject: &Subject<'_>) -> Result<Text, Refusal>
     ensures ended { Stage (serve (Compile (subject_seen subject.now)))
-        (visit S.texts S.faults S.asked shelf.old shelf.new) (result_map_both string_bytes (λ r. r) result) }
+        (visit S.texts S.faults S.asked shelf.old shelf.new) (result_map_both bytes_of (λ r. r) result) }
     ensures same { S.texts shelf.new ≡ S.texts shelf.old }
 {
     let checked = checked_in(alloc, shelf, subject)?;
@@ -65,9 +65,9 @@ fn run_query<S: Shelf>(
     shelf: &mut S,
     subject: &Subject<'_>,
     input: Option<&str>,
-) -> Result<String, Refusal>
+) -> Result<Text, Refusal>
     ensures ended { Stage (serve (Run (subject_seen subject.now) (option_copied input.entry)))
-        (visit S.texts S.faults S.asked shelf.old shelf.new) (result_map_both string_bytes (λ r. r) result) }
+        (visit S.texts S.faults S.asked shelf.old shelf.new) (result_map_both bytes_of (λ r. r) result) }
     ensures same { S.texts shelf.new ≡ S.texts shelf.old }
 {
     let checked = checked_in(alloc, shelf, subject)?;

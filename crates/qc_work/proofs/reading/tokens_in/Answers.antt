@@ -1,7 +1,6 @@
 use Rattle.std.proofs.Common.{sym}
 use Rattle.std.proofs.lemmas.Result.{err_from_is_err_and}
 use Rattle.qc_source.specs.Queries.{IsScanFault}
-use Rattle.qc_work.specs.Sources.{table_of}
 use Rattle.qc_work.proofs.Refusing.{query_refused}
 use Rattle.qc_work.proofs.reading.tokens_in.Goals as goal
 

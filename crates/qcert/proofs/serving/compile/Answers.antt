@@ -1,4 +1,4 @@
-use Rattle.std.specs.String.{string_bytes}
+use Rattle.qc_work.specs.Texts.{bytes_of}
 use Rattle.std.proofs.lemmas.Result.{err_from_is_err_and}
 use Rattle.qcert.proofs.StageLemmas.{stops, made, acted}
 use Rattle.qcert.proofs.serving.compile.Goals as goal
@@ -10,6 +10,6 @@ returns-in_err-checked-clause-ended g c =
 
 pub returns-clause-ended : goal.returns-clause-ended
 returns-clause-ended g c =
-    acted _ _ string_bytes c.program_text.result _ _ _ _ _ c.in_ok-checked.ensures.count
+    acted _ _ bytes_of c.program_text.result _ _ _ _ _ c.in_ok-checked.ensures.count
     (made _ _ c.in_ok-checked.checked _ _ _ _ _ c.in_ok-checked.ensures.count c.in_ok-checked.ensures.ended)
     c.program_text.ensures

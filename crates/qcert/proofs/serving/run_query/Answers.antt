@@ -1,4 +1,4 @@
-use Rattle.std.specs.String.{string_bytes}
+use Rattle.qc_work.specs.Texts.{bytes_of}
 use Rattle.std.proofs.lemmas.Result.{err_from_is_err_and}
 use Rattle.qcert.proofs.StageLemmas.{stops, goes, made, acted, up, itself}
 use Rattle.qcert.proofs.JobLaws.{input_of_schema}
@@ -19,7 +19,7 @@ returns-in_err-world-clause-ended g c =
 
 pub returns-clause-ended : goal.returns-clause-ended
 returns-clause-ended g c =
-    acted _ _ string_bytes c.answer_line.result _ _ _ _ _
+    acted _ _ bytes_of c.answer_line.result _ _ _ _ _
     (up _ _ _ c.in_ok-checked.ensures.count c.in_ok-world.ensures.count)
     (goes _ _ _ _ _ _ _ _ _ _ c.in_ok-checked.checked _ c.in_ok-checked.ensures.same c.in_ok-checked.ensures.count
     c.in_ok-world.ensures.count

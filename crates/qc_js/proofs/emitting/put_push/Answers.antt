@@ -1,0 +1,6 @@
+use Rattle.qc_js.proofs.Fronts.{adds_then}
+use Rattle.qc_js.proofs.emitting.put_push.Goals as goal
+
+pub returns : goal.returns
+returns g c =
+    adds_then c.put_variable-ok.ensures (adds_then c.put-ok.ensures (adds_then c.emit_expr-ok.ensures (c.put.ensures)))

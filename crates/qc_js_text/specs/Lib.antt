@@ -1,0 +1,4 @@
+pub mod inner
+pub mod Reading
+pub mod Table
+pub mod TokenKinds

@@ -1,0 +1,10 @@
+pub mod Agreed
+pub mod Encoding
+pub mod Markers
+pub mod PlainData
+pub mod PlainLaws
+pub mod Returned
+pub mod SeenLaws
+pub mod Shown
+pub mod Sides
+pub mod Words

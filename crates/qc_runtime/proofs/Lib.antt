@@ -1,0 +1,10 @@
+pub mod Answered
+pub mod Averages
+pub mod Comparing
+pub mod Grouped
+pub mod Integers
+pub mod ObjectLaws
+pub mod Ordered
+pub mod Parts
+pub mod Plain
+pub mod Rows

@@ -1,0 +1,13 @@
+use Rattle.std.proofs.Common.{◌≡◌, drop, map}
+use Rattle.std.specs.Int.{int_min}
+use Rattle.qc_data.specs.Kinds.{as_int}
+use Rattle.qc_data.specs.Outcome.{Value, and_then, each}
+use Rattle.qc_ops.specs.Numbers.{least_of}
+use Rattle.qc_ops.proofs.Folds.{fold_ints, extreme}
+use Rattle.qc_rt.specs.Seen.{seen}
+use Rattle.qc_runtime.proofs.aggregates.least.Given as goal
+
+abbrev pub invariant-loop-item : goal.invariant-loop-item
+invariant-loop-item l =
+    and_then (each as_int (map seen l.items)) (λ ns. Value (least_of ns))
+    ≡ fold_ints (extreme int_min) l.least (map seen (drop l.item-index l.items))

@@ -1,0 +1,7 @@
+use Rattle.std.proofs.Common.{◌≡◌, drop}
+use Rattle.qc_ops.specs.Records.{is_among}
+use Rattle.qc_runtime.proofs.objects.is_among.Given as goal
+
+abbrev pub invariant-loop-other : goal.invariant-loop-other
+invariant-loop-other l =
+    is_among l.name l.names ≡ is_among l.name (drop l.other-index l.names)

@@ -1,0 +1,5 @@
+pub mod Gathered
+pub mod KeptItems
+pub mod TwinForms
+pub mod TwinLaws
+pub mod TwinObjects
