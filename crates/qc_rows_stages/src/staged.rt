@@ -8,6 +8,9 @@ ghost use Rattle.qc_nra.specs.Sizes.{size};
 
 use qc_containers::Memory;
 use qc_data::Json;
+use qc_io::MemSink;
+use qc_js::emit;
+use qc_js_run::Script;
 use qc_lang::{Lang, Pass};
 use qc_lex::Table;
 use qc_lower::NraToNnrc;
@@ -20,6 +23,7 @@ use qc_rows::{
 };
 use qc_source::{QueryFault, tokens_of};
 use qc_to_imp::NnrsToImp;
+use qc_to_js::to_js;
 use qc_to_nnrs::NnrcToNnrs;
 use qc_to_nra::OqlToNra;
 use qc_types::Schema;
@@ -28,6 +32,9 @@ use std::alloc::Global;
 /// The most bytes of a query.
 const MOST_BYTES: usize = 65_536;
 
+/// The most bytes of a script.
+const ROOM: usize = 1_048_576;
+
 // A stage of the pipeline, by its language.
 #[derive(Drop)]
 enum Stage {
@@ -35,6 +42,7 @@ enum Stage {
     Calculus,
     Statements,
     Programs,
+    Scripts,
 }
 
 /// The row's query as far as the row's stage, of which each call that the row names is made; or why there is none.
@@ -51,6 +59,7 @@ fn stage_of(name: &str) -> Result<Stage, Odd> {
         "nnrc" => Ok(Stage::Calculus),
         "nnrs" => Ok(Stage::Statements),
         "imp" => Ok(Stage::Programs),
+        "js" => Ok(Stage::Scripts),
         _ => Err(Odd::Form),
     }
 }
@@ -126,6 +135,7 @@ fn at_stage(
         Stage::Calculus => in_calculus(alloc, schema, globals, row, tree),
         Stage::Statements => in_statements(alloc, schema, globals, row, tree),
         Stage::Programs => in_programs(alloc, schema, globals, row, tree),
+        Stage::Scripts => in_scripts(alloc, schema, globals, row, tree),
     }
 }
 
@@ -185,6 +195,29 @@ fn in_programs(
     let tree = NnrsToImp.pass(alloc, schema, tree)?;
     let text = qc_imp::spell(alloc, &tree)?;
     answered(alloc, schema, globals, row, &tree, text.as_str())
+}
+
+// The same at the stage of programs on JSON.
+fn in_scripts(
+    alloc: Global,
+    schema: &Schema,
+    globals: Option<&Json>,
+    row: &mut Form,
+    tree: Nra,
+) -> Result<Compared, Odd>
+    requires { size tree ≤ 2 ^ 80 }
+{
+    let tree = statements_of(alloc, schema, tree)?;
+    let tree = NnrsToImp.pass(alloc, schema, tree)?;
+    let js = to_js(alloc, schema, &tree)?;
+    let mut out = MemSink::new(alloc, ROOM)?;
+    if emit(&js, &mut out).is_err() {
+        return Err(Odd::Form);
+    }
+    match str::from_utf8(out.written()) {
+        Ok(text) => answered(alloc, schema, globals, row, &Script::of(js), text),
+        Err(_) => Err(Odd::Form),
+    }
 }
 
 // The tree of the calculus for one of the algebra.

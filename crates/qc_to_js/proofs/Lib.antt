@@ -1,0 +1,12 @@
+pub mod Constants
+pub mod DataForms
+pub mod Expressed
+pub mod JsonForms
+pub mod OperatorForms
+pub mod Outcomes
+pub mod Scopes
+pub mod Stated
+pub mod Stores
+pub mod Whole
+pub mod Worlds
+pub mod Writing
