@@ -35,13 +35,14 @@ module _ (checked : Checked) (w : WorldOf) (of_schema : IsOf checked.schema w)
   abbrev in_bits : Outcome Datum
   in_bits = meaning_of checked.query bits64 w
 
-  is_in_bits : (in_bits ≡ Value (typed w of_schema).0) ⊎ (in_bits ≡ Halts OutOfRange)
-  is_in_bits = (typed w of_schema).3 (negsuc (2 ^ 63 - 1)) (pos (2 ^ 63 - 1))
+  is_in_bits : (in_bits ≡ Value (typed.values w of_schema).0) ⊎ (in_bits ≡ Halts OutOfRange)
+  is_in_bits = (typed.values w of_schema).3 (negsuc (2 ^ 63 - 1)) (pos (2 ^ 63 - 1))
 
   -- a typed query is never Stuck
   pub never_stuck : (h : Halt) → h ≡ halt.Stuck → (h ≢ halt.Memory → in_bits ≡ Halts (why_of h)) → ⊥
   never_stuck h e given =
-      not_stuck in_bits (typed w of_schema).0 is_in_bits (given (no_memory h e) ∙ ap (λ (x : Halt). Halts (why_of x)) e)
+      not_stuck in_bits (typed.values w of_schema).0 is_in_bits
+      (given (no_memory h e) ∙ ap (λ (x : Halt). Halts (why_of x)) e)
 
   -- the text of a query's answer
   pub answer_of : (answer : Datum) → in_bits ≡ Value answer → (text : List ℕ) → text ≡ line (text_of (enc answer))
@@ -50,8 +51,8 @@ module _ (checked : Checked) (w : WorldOf) (of_schema : IsOf checked.schema w)
     record {
       answer = answer;
       is_answer =
-          at_any_size (meaning_of checked.query any_size w) in_bits (typed w of_schema).0 answer is_in_bits
-          (typed w of_schema).2 value;
+          at_any_size (meaning_of checked.query any_size w) in_bits (typed.values w of_schema).0 answer is_in_bits
+          (typed.values w of_schema).2 value;
       in_bounds = value;
       is_text = is_text;
     },

@@ -1,5 +1,3 @@
-pub mod Bags
 pub mod Evaluated
-pub mod Lowered
 pub mod Refusing
 pub mod Right

@@ -1,5 +1,4 @@
 pub mod Causes
-pub mod Lowering
 pub mod Promises
 pub mod Reading
 pub mod Refusals

@@ -5,7 +5,7 @@ use Rattle.qc_work.specs.declared.refusal.File.{File}
 use Rattle.qc_work.specs.declared.refusal.File.TheVariants.{Schema, Query, Input, Script}
 use Rattle.qc_work.specs.declared.refusal.Refusal.{Refusal}
 use Rattle.qc_work.specs.declared.refusal.Refusal.TheVariants.{Usage, ReadFault, TooLong, BadSchema, BadScan}
-use Rattle.qc_work.specs.declared.refusal.Refusal.TheVariants.{TooManyTokens, BadSyntax, BadType, Unbuilt}
+use Rattle.qc_work.specs.declared.refusal.Refusal.TheVariants.{TooManyTokens, BadSyntax, BadType}
 use Rattle.qc_work.specs.declared.refusal.Refusal.TheVariants.{BadInput, Range, WriteFault, Memory}
 
 -- the exit status of a call that is refused
@@ -18,7 +18,6 @@ status_of (BadScan file at) = 1
 status_of TooManyTokens = 1
 status_of (BadSyntax at) = 1
 status_of (BadType at) = 1
-status_of Unbuilt = 1
 status_of BadInput = 1
 status_of Range = 6
 status_of WriteFault = 4
@@ -41,7 +40,6 @@ refusal_text (BadScan file at) = codes "BadScan at byte " ++ decimal at ++ codes
 refusal_text TooManyTokens = codes "TooManyTokens"
 refusal_text (BadSyntax at) = codes "BadSyntax at token " ++ decimal at
 refusal_text (BadType at) = codes "BadType at token " ++ decimal at
-refusal_text Unbuilt = codes "Unbuilt"
 refusal_text BadInput = codes "BadInput"
 refusal_text Range = codes "Range"
 refusal_text WriteFault = codes "WriteFault"

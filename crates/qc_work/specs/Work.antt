@@ -1,5 +1,5 @@
 -- What is done once the files of a job are read: the text that is given, and why there is none.
-use Rattle.std.specs.Prelude.{◌≡◌, ℕ, List, [], ◌∷◌, ◌++◌, None}
+use Rattle.std.specs.Prelude.{◌≡◌, ℕ, List, [], ◌∷◌, ◌++◌}
 use Rattle.qc_data.specs.declared.data.Datum.{Datum}
 use Rattle.qc_data.specs.Encoding.{enc}
 use Rattle.qc_data.specs.Outcome.{Mode, any_size, bits64, Value, Halts, Range as OutOfRange}
@@ -7,9 +7,8 @@ use Rattle.qc_types.specs.Schemas.{WorldOf}
 use Rattle.qc_schema.specs.TypeText.{tree_of}
 use Rattle.qc_schema.specs.Writing.{text_of}
 use Rattle.qc_work.specs.declared.refusal.Refusal.{Refusal}
-use Rattle.qc_work.specs.declared.refusal.Refusal.TheVariants.{Unbuilt, Range}
+use Rattle.qc_work.specs.declared.refusal.Refusal.TheVariants.{Range}
 use Rattle.qc_work.specs.declared.sources.Checked.{Checked}
-use Rattle.qc_work.specs.Lowering.{lower_query}
 use Rattle.qc_work.specs.Right.{Meaning, IsRight}
 use Rattle.qc_work.specs.Sources.{meaning_of, type_of}
 
@@ -36,10 +35,10 @@ IsTextFor (Check checked) text = text ≡ line (text_of (tree_of (type_of checke
 IsTextFor (Compile checked) text = IsRight bits64 checked.schema (meaning_of checked.query) text
 IsTextFor (Run checked world) text = IsAnswer bits64 (meaning_of checked.query) world text
 
--- the query is not compiled yet, or it leaves 64 bits in the world
+-- a query that is run leaves 64 bits in the world; each query that has its type is compiled
 abbrev pub Refuses : Work → Refusal → Type 0
 Refuses (Check checked) r = ⊥
-Refuses (Compile checked) r = (r ≡ Unbuilt) × (lower_query checked.query ≡ None)
+Refuses (Compile checked) r = ⊥
 Refuses (Run checked world) r = (r ≡ Range) × (meaning_of checked.query bits64 world ≡ Halts OutOfRange)
 
 -- there is no cause to refuse the work

@@ -1,17 +1,16 @@
 // What is done with a query: the line of its type, its program, and the line of its answer.
-ghost use Rattle.std.specs.Prelude.{◌≡◌, ◌⊎◌, None, IfOk, MatchResult};
+ghost use Rattle.std.specs.Prelude.{◌≡◌, ◌⊎◌, IfOk, MatchResult};
 ghost use Rattle.std.specs.String.{string_bytes};
 ghost use Rattle.qc_lang.specs.Keeping.{IsOf};
 ghost use Rattle.qc_work.specs.Work.{line, Check, Compile, Run};
 ghost use Rattle.qc_work.specs.Promises.{Acts, HasItsType};
 ghost use Rattle.qc_work.specs.Texts.{bytes_of};
 
-use crate::lower::lower_query;
 use crate::refusal::Refusal;
-use crate::sources::{Checked, evaluate, type_of};
-use qc_containers::{List, Memory};
+use crate::sources::{Checked, compiled, evaluate, type_of};
+use qc_containers::Memory;
 use qc_data::Halt;
-use qc_js::{Js, Program, held};
+use qc_js::{Js, held};
 use qc_js_text::one_program;
 use qc_schema::{datum_text, type_text};
 use qc_types::World;
@@ -35,19 +34,16 @@ pub fn type_line(alloc: Global, checked: &Checked) -> Result<Text, Refusal>
     Ok(Text::Line(line(text)?))
 }
 
-/// The query's program, where it is compiled.
-pub fn program_text(alloc: Global, checked: &Checked) -> Result<Text, Refusal>
-    requires typed { HasItsType checked.now.schema checked.now.query }
-    ensures { Acts bytes_of (Compile checked.now) result }
+/// The query's program.
+pub fn program_text(alloc: Global, checked: Checked) -> Result<Text, Refusal>
+    requires typed { HasItsType checked.schema checked.query }
+    ensures { Acts bytes_of (Compile checked) result }
 {
-    let Some(result) = lower_query(alloc, &checked.query)? else {
-        return Err(Refusal::Unbuilt);
-    };
-    let body = List::new(alloc);
-    let program = Program { body, result };
-    held(&program);
+    let query = checked.query;
+    let schema = checked.schema;
+    let js = compiled(alloc, &schema, query)?;
+    held(js.program());
     one_program();
-    let js = Js::of(program);
     Ok(Text::Program(js))
 }
 

@@ -2,7 +2,6 @@
 #![tactic(auto)]
 
 mod actions;
-mod lower;
 mod reading;
 mod refusal;
 mod sources;

@@ -24,18 +24,20 @@ pub fn schema_in(alloc: Global, bytes: &[u8]) -> Result<Schema, Refusal>
 /// The tokens of the source that the bytes are.
 pub fn tokens_in(alloc: Global, source: Source, bytes: &[u8]) -> Result<Words, Refusal>
     requires { length bytes.now ≤ 65536 }
-    ensures { Computes (IsTokens (table_of source) bytes.now) (IsBadScan source bytes.now) result }
+    ensures reads { Computes (IsTokens (table_of source) bytes.now) (IsBadScan source bytes.now) result }
+    ensures few { IfOk result (λ words. length words ≤ 1000) }
 {
     Ok(tokens_of(alloc, table_of(source), bytes)?)
 }
 
-/// The query of the schema that the tokens spell.
+/// The query of the schema that the tokens, at most 1,000, spell.
 pub fn query_in(
     alloc: Global,
     source: Source,
     schema: &Schema,
     words: &Words,
 ) -> Result<Query, Refusal>
+    requires few { length words.now ≤ 1000 }
     ensures reads { Computes (IsQuery source schema.now words.now) (IsBadQuery source schema.now words.now) result }
     ensures typed { IfOk result (HasItsType schema.now) }
 {

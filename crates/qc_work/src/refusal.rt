@@ -31,8 +31,6 @@ pub enum Refusal {
     BadSyntax(u32),
     /// The query has no type, which shows first at this token.
     BadType(u32),
-    /// The query is of a form that is not compiled yet.
-    Unbuilt,
     /// The file has no input of the schema.
     BadInput,
     /// The query leaves 64 bits in the world of the input.
@@ -116,7 +114,6 @@ impl Refusal {
             | Refusal::TooManyTokens
             | Refusal::BadSyntax(_)
             | Refusal::BadType(_)
-            | Refusal::Unbuilt
             | Refusal::BadInput => 1,
             Refusal::Range => 6,
             Refusal::WriteFault => 4,

@@ -1,12 +1,16 @@
 // The source languages behind one face.
-ghost use Rattle.std.specs.Prelude.{◌≡◌, IfOk, MatchResult};
+ghost use Rattle.std.specs.Prelude.{◌≡◌, ◌≤◌, length, IfOk, MatchResult};
 ghost use Rattle.qc_data.specs.Outcome.{bits64, Gives as HasOutcome};
 ghost use Rattle.qc_work.specs.Sources.{IsQuery, IsFault, meaning_of, table_of, type_of};
-ghost use Rattle.qc_work.specs.Promises.{HasItsType};
+ghost use Rattle.qc_route.specs.Answering.{Answers};
+ghost use Rattle.qc_work.specs.Promises.{HasItsType, IsReady};
 
+use qc_containers::Memory;
 use qc_data::{Datum, Halt};
+use qc_js::Js;
 use qc_lex::{Table, Words};
 use qc_oql::TypedQuery;
+use qc_route::program_of;
 use qc_source::QueryFault;
 use qc_types::{Schema, Ty, World};
 use std::alloc::Global;
@@ -41,13 +45,14 @@ pub fn table_of(source: Source) -> Table
     }
 }
 
-/// The query of the source that the tokens spell, with its type in the schema, or the first fault.
+/// The query of the source that the tokens, at most 1,000, spell, with its type in the schema, or the first fault.
 pub fn read_query(
     alloc: Global,
     source: Source,
     schema: &Schema,
     words: &Words,
 ) -> Result<Query, QueryFault>
+    requires few { length words.now ≤ 1000 }
     ensures reads { MatchResult result (IsQuery source schema.now words.now) (IsFault source schema.now words.now) }
     ensures typed { IfOk result (HasItsType schema.now) }
 {
@@ -71,5 +76,15 @@ pub fn evaluate(alloc: Global, query: &Query, world: &World) -> Result<Datum, Ha
 {
     match query {
         Query::Oql(typed) => qc_oql_eval::eval(alloc, &typed.query, world),
+    }
+}
+
+/// The query's program.
+pub fn compiled(alloc: Global, schema: &Schema, query: Query) -> Result<Js, Memory>
+    requires { IsReady schema.now query }
+    ensures { IfOk result (λ js. Answers schema.now (meaning_of query) js) }
+{
+    match query {
+        Query::Oql(typed) => program_of(alloc, schema, typed),
     }
 }

@@ -210,7 +210,7 @@ serve_asks job =
 -- a line a work
 refused_once : (w : Work) (r q : Refusal) → Refuses w r → Refuses w q → q ≡ r
 refused_once (work.Check c) r q u v = absurd u
-refused_once (work.Compile c) r q u v = v.0 ∙ sym u.0
+refused_once (work.Compile c) r q u v = absurd u
 refused_once (work.Run c w) r q u v = v.0 ∙ sym u.0
 
 pub act_lawful : (t : Texts) (w : Work) → Lawful t (act w)

@@ -5,7 +5,7 @@ use Rattle.qc_io.specs.Device.{Texts}
 use Rattle.qc_work.specs.declared.refusal.Refusal.{Refusal}
 use Rattle.qc_work.specs.declared.refusal.Refusal.TheVariants.{Usage, ReadFault, TooLong, BadSchema, BadScan}
 use Rattle.qc_work.specs.declared.refusal.Refusal.TheVariants.{TooManyTokens}
-use Rattle.qc_work.specs.declared.refusal.Refusal.TheVariants.{BadSyntax, BadType, Unbuilt, BadInput, Range, WriteFault}
+use Rattle.qc_work.specs.declared.refusal.Refusal.TheVariants.{BadSyntax, BadType, BadInput, Range, WriteFault}
 use Rattle.qc_work.specs.declared.refusal.Refusal.TheVariants.{Memory}
 use Rattle.std.specs.Io.KnownBytes.{append_known}
 use Rattle.std.specs.Prelude.{IsOk}
@@ -42,7 +42,6 @@ fails (BadScan file at) e = cc
 fails TooManyTokens e = cc
 fails (BadSyntax at) e = cc
 fails (BadType at) e = cc
-fails Unbuilt e = cc
 fails BadInput e = cc
 fails Range e = cc
 fails WriteFault e = cc

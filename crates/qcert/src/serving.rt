@@ -57,7 +57,7 @@ fn compile<S: Shelf>(alloc: Global, shelf: &mut S, subject: &Subject<'_>) -> Res
     ensures same { S.texts shelf.new ≡ S.texts shelf.old }
 {
     let checked = checked_in(alloc, shelf, subject)?;
-    program_text(alloc, &checked)
+    program_text(alloc, checked)
 }
 
 fn run_query<S: Shelf>(

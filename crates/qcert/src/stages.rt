@@ -105,6 +105,7 @@ fn tokens_file<S: Shelf>(
 ) -> Result<Words, Refusal>
     ensures ended { Stage (tokens_in source name.now)
         (visit S.texts S.faults S.asked shelf.old shelf.new) result }
+    ensures few { IfOk result (λ words. length words ≤ 1000) }
     ensures same { S.texts shelf.new ≡ S.texts shelf.old }
     ensures count { S.faults shelf.old ≤ S.faults shelf.new }
 {

@@ -36,7 +36,6 @@ pub fn tell<E: Sink>(refusal: Refusal, err: &mut E)
         Refusal::BadType(at) => {
             put_all(&["qcert: BadType at token ", buffer.format(at), "\n"], err)
         }
-        Refusal::Unbuilt => put_all(&["qcert: Unbuilt\n"], err),
         Refusal::BadInput => put_all(&["qcert: BadInput\n"], err),
         Refusal::Range => put_all(&["qcert: Range\n"], err),
         Refusal::WriteFault => put_all(&["qcert: WriteFault\n"], err),

@@ -11,4 +11,4 @@ returns-in_err-bytes-clause-ended g c =
 pub returns-clause-ended : goal.returns-clause-ended
 returns-clause-ended g c =
     read _ _ _ _ _ _ _ _ _ c.in_ok-bytes.bytes.items _ c.in_ok-bytes.ensures.count c.in_ok-bytes.ensures.ended
-    (rw (sym c.deref.ensures.value) c.tokens_in.ensures)
+    (rw (sym c.deref.ensures.value) c.tokens_in.ensures.reads)

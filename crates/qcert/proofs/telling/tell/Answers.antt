@@ -19,9 +19,6 @@ returns-in-BadSchema g c = rw (c.in-BadSchema.is) c.put_all-in-BadSchema.ensures
 pub returns-in-TooManyTokens : goal.returns-in-TooManyTokens
 returns-in-TooManyTokens g c = rw (c.in-TooManyTokens.is) c.put_all-in-TooManyTokens.ensures.bytes
 
-pub returns-in-Unbuilt : goal.returns-in-Unbuilt
-returns-in-Unbuilt g c = rw (c.in-Unbuilt.is) c.put_all-in-Unbuilt.ensures.bytes
-
 pub returns-in-BadInput : goal.returns-in-BadInput
 returns-in-BadInput g c = rw (c.in-BadInput.is) c.put_all-in-BadInput.ensures.bytes
 
