@@ -47,3 +47,10 @@ def made(name, source, crates, top=TOP):
     with tempfile.TemporaryDirectory() as temporary:
         folder = pathlib.Path(temporary)
         yield build(folder, name, source, crates, top.resolve()), folder
+
+
+def qcert():
+    """The program `qcert`, which is made first where it is stale; `bin/qcert` looks at all sources in each call."""
+    words = ["check", "--source", "oql", "--query", TOP / "examples" / "sum.oql"]
+    subprocess.run([TOP / "bin" / "qcert"] + words, check=True, stdout=subprocess.DEVNULL)
+    return TOP / "crates" / "qcert_main" / "out" / "qcert_main"

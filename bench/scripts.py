@@ -10,6 +10,7 @@ work makes the times longer.
 import sys
 
 from building import made
+from pieces import INPUT, MAIN, ON_QUERY, SCHEMA, TELL, TYPED, fetched, front, on_query, passed, value_of, words
 from stages import ROWS, STAFF, employees, least, write
 
 # The most seconds that reading a mebibyte may take, and the most times as long as half of the text.
@@ -17,110 +18,37 @@ MOST_SECONDS, MOST_GROWTH = 0.5, 3
 # The most times as long as the imperative program that its text may take.
 MOST_TIMES = 1.5
 
-PROGRAM = """//! Reads the script `script`; where a word says so, also executes it over the input `input` in the schema `schema`,
+PROGRAM = (
+    front("""//! Reads the script `script`; where a word says so, also executes it over the input `input` in the schema `schema`,
 //! beside the imperative program of the query `q`. It prints a line of microseconds for each.
-#![tactic(auto)]
-ghost use Rattle.std.specs.Prelude.{◌≤◌, length};
-
-use qc_data::enc;
-use qc_io::{FileShelf, Shelf};
-use qc_js::Js;
-use qc_js_run::exec;
-use qc_js_text::read_js;
-use qc_lang::{Lang, Pass};
-use qc_lex::Table;
-use qc_lower::NraToNnrc;
-use qc_oql::read;
-use qc_schema::{read_input, read_schema};
-use qc_source::tokens_of;
-use qc_to_imp::NnrsToImp;
-use qc_to_nnrs::NnrcToNnrs;
-use qc_to_nra::OqlToNra;
-use qc_types::{Schema, World};
-use std::env;
-use std::time::Instant;
-
-fn main(rt: HostRuntime) {
-    let alloc = rt.alloc();
-    let mut shelf = FileShelf::new(&rt);
-    let mut bytes = Vec::new(alloc);
-    let _ = shelf.fetch("script", 1 << 24, &mut bytes);
-    let start = Instant::now(&rt);
-    let Ok(js) = read_js(alloc, &bytes) else {
-        return;
-    };
-    tell(&rt, "read", start);
-    let words = match env::args(&rt) {
-        Ok(words) => words.count(),
-        Err(_) => 0,
-    };
-    if words < 2 {
+""", ["qc_data::enc", "qc_js::Js", "qc_js_run::exec", "qc_js_text::read_js"])
+    + MAIN + fetched("script", "1 << 24")
+    + "    let start = Instant::now(&rt);\n" + value_of("js", "read_js(alloc, &bytes)")
+    + """    tell(&rt, "read", start);
+""" + words("&rt")
+    + """    if words < 2 {
         return;
     }
-    let _ = shelf.fetch("schema", 1 << 20, &mut bytes);
-    let Ok(schema) = read_schema(alloc, &bytes) else {
-        return;
-    };
-    let _ = shelf.fetch("input", 1 << 24, &mut bytes);
-    let Ok(world) = read_input(alloc, &schema, &bytes) else {
-        return;
-    };
-    execute(&rt, &js, &world);
-    let _ = shelf.fetch("q", 65_536, &mut bytes);
-    if bytes.len() <= 65_536 {
-        evaluate(&rt, &schema, &world, &bytes);
-    }
-}
-
-fn execute(rt: &HostRuntime, js: &Js, world: &World) {
-    let Ok(input) = enc(rt.alloc(), world.whole()) else {
-        return;
-    };
-    let start = Instant::now(rt);
+""" + SCHEMA + INPUT
+    + "    execute(&rt, &js, &world);\n" + on_query("evaluate")
+    + "fn execute(rt: &HostRuntime, js: &Js, world: &World) {\n" + value_of("input", "enc(rt.alloc(), world.whole())")
+    + """    let start = Instant::now(rt);
     if exec(rt.alloc(), js, &input).is_ok() {
         tell(rt, "script", start);
     }
 }
 
-fn evaluate(rt: &HostRuntime, schema: &Schema, world: &World, bytes: &[u8])
-    requires { length bytes.now ≤ 65536 }
-{
-    let Ok(tokens) = tokens_of(rt.alloc(), Table::Oql, bytes) else {
-        return;
-    };
-    let Ok(typed) = read(rt.alloc(), schema, &tokens) else {
-        return;
-    };
-    let Ok(tree) = OqlToNra.pass(rt.alloc(), schema, typed) else {
-        return;
-    };
-    let Ok(tree) = NraToNnrc.pass(rt.alloc(), schema, tree) else {
-        return;
-    };
-    let Ok(tree) = NnrcToNnrs.pass(rt.alloc(), schema, tree) else {
-        return;
-    };
-    let Ok(tree) = NnrsToImp.pass(rt.alloc(), schema, tree) else {
-        return;
-    };
-    let start = Instant::now(rt);
+fn evaluate""" + ON_QUERY + TYPED
+    + passed("OqlToNra", "typed") + passed("NraToNnrc") + passed("NnrcToNnrs") + passed("NnrsToImp")
+    + """    let start = Instant::now(rt);
     if tree.eval(rt.alloc(), world).is_ok() {
         tell(rt, "imp", start);
     }
 }
 
-// A line of the microseconds since the start.
-fn tell(rt: &HostRuntime, what: &str, start: std::io::Result<Instant>) {
-    let Ok(start) = start else {
-        return;
-    };
-    let Ok(passed) = start.elapsed(rt) else {
-        return;
-    };
-    let micros = passed.as_micros();
-    let _ = println!(rt; "{what} {micros}");
-}
 """
+    + TELL
+)
 
 QUERY = "select x.name from x in emp order by x.age desc, x.name"
 SCRIPT = """function query(w, rt) {

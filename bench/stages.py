@@ -11,6 +11,7 @@ import subprocess
 import sys
 
 from building import made
+from pieces import INPUT, MAIN, ON_QUERY, SCHEMA, TELL, TYPED, front, on_query, passed, words
 
 # The most times as long as the stage before that a stage may take.
 MOST_TIMES = 1.3
@@ -21,80 +22,27 @@ MOST_MILLISECONDS = 10
 # The most times as long as half of its text that a translation may take, where it takes a tenth of a millisecond.
 MOST_GROWTH = 3
 
-PROGRAM = """//! Translates the query `q` in the schema `schema`; where a word says so, also evaluates it at each stage over the input
+PROGRAM = (
+    front("""//! Translates the query `q` in the schema `schema`; where a word says so, also evaluates it at each stage over the input
 //! `input`. It prints a line of microseconds for each.
-#![tactic(auto)]
-ghost use Rattle.std.specs.Prelude.{◌≤◌, length};
-
-use qc_io::{FileShelf, Shelf};
-use qc_lang::{Lang, Pass};
-use qc_lex::Table;
-use qc_lower::NraToNnrc;
-use qc_oql::read;
-use qc_schema::{read_input, read_schema};
-use qc_source::tokens_of;
-use qc_to_imp::NnrsToImp;
-use qc_to_nnrs::NnrcToNnrs;
-use qc_to_nra::OqlToNra;
-use qc_types::{Schema, World};
-use std::alloc::Global;
-use std::env;
-use std::time::Instant;
-
-fn main(rt: HostRuntime) {
-    let alloc = rt.alloc();
-    let mut shelf = FileShelf::new(&rt);
-    let mut bytes = Vec::new(alloc);
-    let _ = shelf.fetch("schema", 1 << 20, &mut bytes);
-    let Ok(schema) = read_schema(alloc, &bytes) else {
-        return;
-    };
-    let _ = shelf.fetch("input", 1 << 24, &mut bytes);
-    let Ok(world) = read_input(alloc, &schema, &bytes) else {
-        return;
-    };
-    let _ = shelf.fetch("q", 65_536, &mut bytes);
-    if bytes.len() <= 65_536 {
-        run(&rt, &schema, &world, &bytes);
-    }
-}
-
-fn run(rt: &HostRuntime, schema: &Schema, world: &World, bytes: &[u8])
-    requires { length bytes.now ≤ 65536 }
-{
-    let words = match env::args(rt) {
-        Ok(words) => words.count(),
-        Err(_) => 0,
-    };
-    let Ok(tokens) = tokens_of(rt.alloc(), Table::Oql, bytes) else {
-        return;
-    };
-    let Ok(typed) = read(rt.alloc(), schema, &tokens) else {
-        return;
-    };
-    let evaluates = words >= 2;
+""", ["std::alloc::Global"])
+    + MAIN + SCHEMA + INPUT + on_query("run")
+    + "fn run" + ON_QUERY + words("rt") + TYPED
+    + """    let evaluates = words >= 2;
     if evaluates {
         evaluate(rt, "query", &typed, world);
     }
     let start = Instant::now(rt);
-    let Ok(tree) = OqlToNra.pass(rt.alloc(), schema, typed) else {
-        return;
-    };
-    tell(rt, "translated", start);
+""" + passed("OqlToNra", "typed")
+    + """    tell(rt, "translated", start);
     if evaluates {
         evaluate(rt, "nraenv", &tree, world);
-        let Ok(tree) = NraToNnrc.pass(rt.alloc(), schema, tree) else {
-            return;
-        };
-        evaluate(rt, "nnrc", &tree, world);
-        let Ok(tree) = NnrcToNnrs.pass(rt.alloc(), schema, tree) else {
-            return;
-        };
-        evaluate(rt, "nnrs", &tree, world);
-        let Ok(tree) = NnrsToImp.pass(rt.alloc(), schema, tree) else {
-            return;
-        };
-        evaluate(rt, "imp", &tree, world);
+""" + passed("NraToNnrc", depth=2)
+    + """        evaluate(rt, "nnrc", &tree, world);
+""" + passed("NnrcToNnrs", depth=2)
+    + """        evaluate(rt, "nnrs", &tree, world);
+""" + passed("NnrsToImp", depth=2)
+    + """        evaluate(rt, "imp", &tree, world);
     }
 }
 
@@ -105,18 +53,9 @@ fn evaluate<L: Lang>(rt: &HostRuntime, stage: &str, tree: &L, world: &World) {
     }
 }
 
-// A line of the microseconds since the start.
-fn tell(rt: &HostRuntime, what: &str, start: std::io::Result<Instant>) {
-    let Ok(start) = start else {
-        return;
-    };
-    let Ok(passed) = start.elapsed(rt) else {
-        return;
-    };
-    let micros = passed.as_micros();
-    let _ = println!(rt; "{what} {micros}");
-}
 """
+    + TELL
+)
 
 EMPTY = '{"version":1,"classes":[],"globals":{}}'
 STAFF = '{"version":1,"classes":[],"globals":{"emp":{"bag":{"record":{"age":"int","dept":"text","name":"text"}}}}}'
@@ -171,11 +110,11 @@ def write(folder, schema, text, query):
         (folder / name).write_text(content)
 
 
-def least(words, folder, wanted):
+def least(call, folder, wanted):
     """The least microseconds of three runs, by what they are for."""
     best = {}
     for _ in range(3):
-        out = subprocess.run(words, cwd=folder, check=True, capture_output=True, text=True).stdout
+        out = subprocess.run(call, cwd=folder, check=True, capture_output=True, text=True).stdout
         told = {line.split()[0]: int(line.split()[1]) for line in out.splitlines()}
         if set(told) != set(wanted):
             sys.exit("bench: the program told only of %s" % sorted(told))

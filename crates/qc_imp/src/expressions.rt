@@ -4,7 +4,7 @@ ghost use Rattle.qc_data.specs.Outcome.{and_then, bits64, Gives, GivesRef, Value
 ghost use Rattle.qc_data.specs.declared.data.Datum.TheVariants as datum;
 ghost use Rattle.qc_imp.specs.Meaning.{cell_of, expr, value_in};
 ghost use Rattle.qc_imp.specs.inner.Stores.{store_of};
-ghost use Rattle.qc_ops.specs.HeldOperands.{GivesHeld, datum_of};
+ghost use Rattle.qc_data.specs.HeldOperands.{GivesHeld, datum_of};
 ghost use Rattle.qc_ops.specs.Operands.{found};
 ghost use Rattle.qc_ops.specs.Operators.{binary, unary};
 ghost use Rattle.qc_ops.specs.Sides.{by_side};
@@ -12,8 +12,8 @@ ghost use Rattle.qc_trees.specs.Branches as forms;
 
 use crate::store::Store;
 use crate::tree::ImpExpr;
-use qc_data::{Datum, Halt, copy};
-use qc_ops::{Binary, Held, Unary, apply1, apply2_taking};
+use qc_data::{Datum, Halt, Held, copy};
+use qc_ops::{Binary, Unary, apply1, apply2_taking};
 use qc_trees::{bool_of, field_of, global_of};
 use qc_types::World;
 use std::alloc::Global;

@@ -12,12 +12,12 @@ use Rattle.qc_grammar.proofs.Lifted.{map_length}
 use Rattle.qc_grammar.proofs.Same as same
 use Rattle.qc_grammar.proofs.Walks as walks
 use Rattle.qc_js.specs.declared.tree.Program.{Program}
-use Rattle.qc_js_text.specs.declared.lexeme.Lexeme.{Lexeme}
+use Rattle.qc_js_lex.specs.declared.lexeme.Lexeme.{Lexeme}
+use Rattle.qc_js_lex.specs.Lexemes.{kind}
 use Rattle.qc_js_text.specs.declared.value.Value.TheVariants.{Tree, Statements}
 use Rattle.qc_js_text.specs.Table.{grammar}
 use Rattle.qc_js_text.specs.inner.Actions as actions
 use Rattle.qc_js_text.specs.inner.Actions.{act, made, program_of}
-use Rattle.qc_js_text.specs.inner.Lexemes.{kind}
 use Rattle.qc_js_text.specs.inner.Trees.{Reads, program_lexemes}
 use Rattle.qc_js_text.specs.inner.Values.{Values}
 use Rattle.qc_js_text.proofs.Closings.{closed}

@@ -11,8 +11,8 @@ use Rattle.qc_js.specs.declared.tree.Stmt.TheFolds.{fold-roll-Stmt}
 use Rattle.qc_js.specs.declared.tree.Stmt.TheVariants as stmt
 use Rattle.qc_js.specs.Held.{all_true}
 use Rattle.qc_js.specs.WellFormed.{is_bare, bare_layer}
-use Rattle.qc_js_text.specs.declared.lexeme.Lexeme.{Lexeme}
-use Rattle.qc_js_text.specs.declared.lexeme.Lexeme.TheVariants.{Var, Function, Int, Text}
+use Rattle.qc_js_lex.specs.declared.lexeme.Lexeme.{Lexeme}
+use Rattle.qc_js_lex.specs.declared.lexeme.Lexeme.TheVariants.{Var, Function, Int, Text}
 use Rattle.qc_js_text.specs.inner.Trees.{world_word, true_word, false_word, null_word, rt_word, let_word, const_word}
 use Rattle.qc_js_text.specs.inner.Trees.{push_word, for_word, of_word, if_word, else_word, open_paren, close_paren}
 use Rattle.qc_js_text.specs.inner.Trees.{open_square, close_square, semicolon, dot, equals, separated, block_lexemes}

@@ -6,8 +6,8 @@ use Rattle.qc_js.specs.declared.tree.Expr.{Expr}
 use Rattle.qc_js.specs.declared.tree.Stmt.{Stmt}
 use Rattle.qc_js.specs.Held.{all_true}
 use Rattle.qc_js.specs.WellFormed.{is_bare}
-use Rattle.qc_js_text.specs.declared.lexeme.Lexeme.{Lexeme}
-use Rattle.qc_js_text.specs.declared.lexeme.Lexeme.TheVariants.{Var, Fixed}
+use Rattle.qc_js_lex.specs.declared.lexeme.Lexeme.{Lexeme}
+use Rattle.qc_js_lex.specs.declared.lexeme.Lexeme.TheVariants.{Var, Fixed}
 use Rattle.qc_js_text.specs.declared.value.Value.{Value}
 use Rattle.qc_js_text.specs.declared.value.Value.TheVariants as value
 use Rattle.qc_js_text.specs.inner.Values.{Values}

@@ -18,9 +18,11 @@ use Rattle.qc_js.specs.Held.{all_true, is_number, expr_held, holds_expr, stmt_he
 use Rattle.qc_js.specs.Tokens as tokens
 use Rattle.qc_js.specs.Tokens.{variable, expr_tokens, stmt_tokens, all_tokens, program_tokens}
 use Rattle.qc_js.proofs.Tests.{both-left, both-right}
-use Rattle.qc_js_text.specs.declared.lexeme.Lexeme.{Lexeme}
-use Rattle.qc_js_text.specs.declared.lexeme.Lexeme.TheVariants.{Var, Function, Int, Text, Fixed}
-use Rattle.qc_js_text.specs.inner.Lexemes.{lexeme_of, token_of, word_lexeme, free_word}
+use Rattle.qc_js_lex.specs.declared.lexeme.Lexeme.{Lexeme}
+use Rattle.qc_js_lex.specs.declared.lexeme.Lexeme.TheVariants.{Var, Function, Int, Text, Fixed}
+use Rattle.qc_js_lex.specs.Lexemes.{word_lexeme, free_word}
+use Rattle.qc_js_lex.specs.Lexemes.{lexeme_of}
+use Rattle.qc_js_text.specs.inner.LexemeTokens.{token_of}
 use Rattle.qc_js_text.specs.inner.Trees as trees
 use Rattle.qc_js_text.specs.inner.Trees.{expr_lexemes, stmt_lexemes, program_lexemes}
 use Rattle.qc_js_text.proofs.Spellings.{var_known, function_known, is_known, token_back}

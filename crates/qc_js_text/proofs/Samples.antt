@@ -2,9 +2,9 @@
 use Rattle.std.proofs.Common.{◌≡◌, ℕ, ◌-◌, pos, true, eqb, [], refl, if◌then◌else◌}
 use Rattle.qc_grammar.proofs.Samples.{grammar_sampled}
 use Rattle.qc_rt.specs.declared.function.Rt.TheVariants as rt
-use Rattle.qc_js_text.specs.declared.lexeme.Lexeme.{Lexeme}
-use Rattle.qc_js_text.specs.declared.lexeme.Lexeme.TheVariants.{Var, Function, Int, Text, Fixed}
-use Rattle.qc_js_text.specs.inner.Lexemes.{kind}
+use Rattle.qc_js_lex.specs.declared.lexeme.Lexeme.{Lexeme}
+use Rattle.qc_js_lex.specs.declared.lexeme.Lexeme.TheVariants.{Var, Function, Int, Text, Fixed}
+use Rattle.qc_js_lex.specs.Lexemes.{kind}
 use Rattle.qc_js_text.specs.Table.{grammar}
 
 -- a lexeme of the kind

@@ -5,12 +5,12 @@ use Rattle.std.proofs.lemmas.Bool.Decides.{nat_tests}
 use Rattle.qc_js.specs.declared.token.Token.{Token}
 use Rattle.qc_js.specs.declared.token.Token.TheVariants as token
 use Rattle.qc_js.proofs.Tests.{both-left, both-right, both}
-use Rattle.qc_js_text.specs.declared.lexeme.Lexeme.{Lexeme}
-use Rattle.qc_js_text.specs.declared.lexeme.Lexeme.TheVariants.{Var, Function, Int, Text, Fixed}
+use Rattle.qc_js_lex.specs.declared.lexeme.Lexeme.{Lexeme}
+use Rattle.qc_js_lex.specs.declared.lexeme.Lexeme.TheVariants.{Var, Function, Int, Text, Fixed}
 use Rattle.qc_js_text.specs.Reading.{open_behind, depth_from}
 use Rattle.qc_js_text.specs.inner.Depths as depths
 use Rattle.qc_js_text.specs.inner.Depths.{shallow_from}
-use Rattle.qc_js_text.specs.inner.Lexemes.{token_of, quiet_token, fixed_token}
+use Rattle.qc_js_text.specs.inner.LexemeTokens.{token_of, quiet_token, fixed_token}
 use Rattle.qc_js_text.proofs.Pairs.{Pairs, none, also}
 
 module _ (n : ℕ) where

@@ -1,10 +1,10 @@
 -- Parts of a list of lexemes.
 use Rattle.std.proofs.Common.{◌≡◌, ◌≤◌, ℕ, zero, suc, ◌+◌, List, [], ◌∷◌, ◌++◌, map, length, drop, slice_get, Some}
 use Rattle.std.proofs.Common.{refl, sym, ap, ◌∙◌, subst, arith}
-use Rattle.qc_js_text.specs.declared.lexeme.Lexeme.{Lexeme}
-use Rattle.qc_js_text.specs.declared.lexeme.Lexeme.TheVariants.{Var, Function, Int, Text, Fixed}
+use Rattle.qc_js_lex.specs.declared.lexeme.Lexeme.{Lexeme}
+use Rattle.qc_js_lex.specs.declared.lexeme.Lexeme.TheVariants.{Var, Function, Int, Text, Fixed}
+use Rattle.qc_js_lex.specs.Lexemes.{kind}
 use Rattle.qc_js_text.specs.inner.Actions.{var_of, called_of, int_of, text_of}
-use Rattle.qc_js_text.specs.inner.Lexemes.{kind}
 
 -- from the one place to the other the list has these lexemes
 pub data Spans (ls : List Lexeme) : ℕ → List Lexeme → ℕ → Type 0 where

@@ -11,12 +11,13 @@ use Rattle.qc_js.specs.declared.token.Token.{Token}
 use Rattle.qc_js.specs.declared.token.Token.TheVariants as token
 use Rattle.qc_js.specs.Held.{is_number}
 use Rattle.qc_js.specs.Tokens.{variable}
-use Rattle.qc_js_text.specs.declared.lexeme.Lexeme.{Lexeme}
-use Rattle.qc_js_text.specs.declared.lexeme.Lexeme.TheVariants.{Var, Function, Fixed}
-use Rattle.qc_js_text.specs.inner.Lexemes.{fixed_word, later_word, number_in, variable_in, variable_or_other}
-use Rattle.qc_js_text.specs.inner.Lexemes.{function_or, fixed_or, free_word, word_lexeme, mark_place, lexeme_of}
-use Rattle.qc_js_text.specs.inner.Lexemes.{fixed_token, token_of}
-use Rattle.qc_js_text.proofs.Variables.{number_known, number_read}
+use Rattle.qc_js_lex.specs.declared.lexeme.Lexeme.{Lexeme}
+use Rattle.qc_js_lex.specs.declared.lexeme.Lexeme.TheVariants.{Var, Function, Fixed}
+use Rattle.qc_js_lex.specs.Lexemes.{fixed_word, later_word, number_in, variable_in, variable_or_other}
+use Rattle.qc_js_lex.specs.Lexemes.{function_or, fixed_or, free_word, word_lexeme, mark_place}
+use Rattle.qc_js_lex.proofs.Variables.{number_known, number_read}
+use Rattle.qc_js_lex.specs.Lexemes.{lexeme_of}
+use Rattle.qc_js_text.specs.inner.LexemeTokens.{fixed_token, token_of}
 
 -- ---- from what the grammar names to its lexeme
 

@@ -12,13 +12,14 @@ use Rattle.qc_grammar.proofs.Heads.{Comes, Fits, Has, comes, fits_body, forced, 
 use Rattle.qc_grammar.proofs.Sets.{one_is}
 use Rattle.qc_js.specs.declared.tree.Program.{Program}
 use Rattle.qc_js.specs.Spelling.{Spells}
+use Rattle.qc_js_lex.specs.declared.lexeme.Lexeme.{Lexeme}
+use Rattle.qc_js_lex.specs.Lexemes.{kind}
+use Rattle.qc_js_lex.proofs.Answered.{scanned_as}
 use Rattle.qc_js_text.specs.Table.{grammar}
-use Rattle.qc_js_text.specs.declared.lexeme.Lexeme.{Lexeme}
 use Rattle.qc_js_text.specs.inner.Actions.{program_of}
-use Rattle.qc_js_text.specs.inner.Lexemes.{kind}
 use Rattle.qc_js_text.specs.inner.Notes.{notes}
 use Rattle.qc_js_text.specs.inner.Trees.{Reads}
-use Rattle.qc_js_text.proofs.Answered.{scanned_as, spelled_reads}
+use Rattle.qc_js_text.proofs.Answered.{spelled_reads}
 use Rattle.qc_js_text.proofs.Bridge.{complete}
 
 -- ---- an exact table derives each list in one way

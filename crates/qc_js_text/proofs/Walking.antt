@@ -23,14 +23,14 @@ use Rattle.qc_js.specs.declared.tree.Program.{Program}
 use Rattle.qc_js.specs.Held.{all_true}
 use Rattle.qc_js.specs.WellFormed.{is_bare}
 use Rattle.qc_js.proofs.Tests.{both-left, both-right}
-use Rattle.qc_js_text.specs.declared.lexeme.Lexeme.{Lexeme}
-use Rattle.qc_js_text.specs.declared.lexeme.Lexeme.TheVariants.{Var, Fixed}
+use Rattle.qc_js_lex.specs.declared.lexeme.Lexeme.{Lexeme}
+use Rattle.qc_js_lex.specs.declared.lexeme.Lexeme.TheVariants.{Var, Fixed}
+use Rattle.qc_js_lex.specs.Lexemes.{kind}
 use Rattle.qc_js_text.specs.declared.value.Value.TheVariants as value
 use Rattle.qc_js_text.specs.Table as table
 use Rattle.qc_js_text.specs.Table.{grammar}
 use Rattle.qc_js_text.specs.inner.Actions as actions
 use Rattle.qc_js_text.specs.inner.Actions.{act, var_of, called_of, int_of, text_of}
-use Rattle.qc_js_text.specs.inner.Lexemes.{kind}
 use Rattle.qc_js_text.specs.inner.Trees as trees
 use Rattle.qc_js_text.specs.inner.Trees.{expr_lexemes, stmt_lexemes, is_told, separated, after_commas, joined}
 use Rattle.qc_js_text.specs.inner.Values.{Values}

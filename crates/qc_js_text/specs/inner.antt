@@ -1,8 +1,6 @@
 pub mod Actions
 pub mod Depths
-pub mod Lexemes
-pub mod Machine
+pub mod LexemeTokens
 pub mod Notes
-pub mod Scanned
 pub mod Trees
 pub mod Values

@@ -7,12 +7,12 @@ use crate::actions::{
     DO_LET, DO_NAME, DO_NO_STATEMENTS, DO_NONE, DO_NULL, DO_PUSH, DO_SET, DO_STATEMENT, DO_TEXT,
     DO_TRUE, DO_VARIABLE, DO_WORLD,
 };
-use crate::lexeme::Lexeme;
 use crate::value::Value;
 use crate::{making, taking};
 use qc_containers::{List, Memory};
 use qc_grammar::{Event, Stack};
 use qc_js::Expr;
+use qc_js_lex::Lexeme;
 use std::alloc::Global;
 
 /// An action of a word, behind the lexemes before it.

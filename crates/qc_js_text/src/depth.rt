@@ -1,9 +1,9 @@
 // How deep brackets are open.
 ghost use Rattle.std.specs.Prelude.{◌≡◌, ◌<◌, ◌^◌};
-ghost use Rattle.qc_js_text.specs.declared.lexeme.Lexeme.TheVariants.{Fixed};
+ghost use Rattle.qc_js_lex.specs.declared.lexeme.Lexeme.TheVariants.{Fixed};
 ghost use Rattle.qc_js_text.specs.inner.Depths as spec;
 
-use crate::lexeme::Lexeme;
+use qc_js_lex::Lexeme;
 
 // How many brackets are open behind a lexeme.
 fn open_behind(count: usize, lexeme: &Lexeme) -> usize

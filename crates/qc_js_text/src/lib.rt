@@ -6,17 +6,13 @@ mod actions;
 mod depth;
 mod fault;
 mod laws;
-mod lexeme;
 mod making;
 mod parsing;
 mod reading;
-mod scanning;
 mod stack;
-mod step;
 mod table;
 mod taking;
 mod value;
-mod words;
 
 pub use fault::JsFault;
 pub use laws::{layout_is_read_back, one_program};

@@ -3,24 +3,23 @@ ghost use Rattle.std.specs.Prelude.{◌≡◌, ◌<◌, ◌^◌, true, map, leng
 ghost use Rattle.qc_grammar.specs.Parsing.{Parses};
 ghost use Rattle.qc_grammar.specs.inner.Certificate.{is_exact, rules};
 ghost use Rattle.qc_grammar.specs.inner.Machine as machine;
+ghost use Rattle.qc_js_lex.specs.Lexemes.{kind};
 ghost use Rattle.qc_js_text.specs.Table.{grammar};
 ghost use Rattle.qc_js_text.specs.inner.Actions as spec;
 ghost use Rattle.qc_js_text.specs.inner.Actions.{made};
-ghost use Rattle.qc_js_text.specs.inner.Lexemes.{kind};
 ghost use Rattle.qc_js_text.specs.inner.Notes.{notes};
 ghost use Rattle.qc_js_text.specs.inner.Trees.{Reads};
 
 use crate::acting::act;
-use crate::lexeme::Lexeme;
 use crate::stack::{take_statements, take_tree};
 use crate::table::{STEPS, TURNS, WIDTH};
 use qc_containers::{List, Memory};
 use qc_grammar::{Event, Stack, SyntaxFault, Table, read};
 use qc_js::Program;
+use qc_js_lex::Lexeme;
 use std::alloc::Global;
 
 // The table in the code: it has the rules of the grammar, and is exact.
-#[tactic(auto, unfolding(crate::specs::Table::grammar, crate::specs::inner::Notes::notes, qc_grammar::specs::inner::Certificate::rules))]
 pub(crate) fn table() -> Table<'static>
     ensures same { rules (machine.table result) notes ≡ grammar }
     ensures exact { is_exact (machine.table result) notes ≡ true }

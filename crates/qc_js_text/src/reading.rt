@@ -1,19 +1,18 @@
 // Texts to programs.
-ghost use Rattle.std.specs.Prelude.{◌≡◌, ◌≤◌, length, true, Ok};
+ghost use Rattle.std.specs.Prelude.{◌≡◌, ◌≤◌, length, true};
 ghost use Rattle.qc_grammar.specs.Parsing.{Spells};
+ghost use Rattle.qc_js_lex.specs.Scanned.{IsScan};
 ghost use Rattle.qc_js_text.specs.Reading.{Answers, most_bytes, most_open};
 ghost use Rattle.qc_js_text.specs.inner.Depths.{is_shallow};
-ghost use Rattle.qc_js_text.specs.inner.Machine.{scan};
 ghost use Rattle.qc_js_text.specs.inner.Trees.{Reads};
 
 use crate::depth::is_shallow;
 use crate::fault::JsFault;
-use crate::lexeme::Lexeme;
 use crate::parsing::parse;
-use crate::scanning::{Scan, lexemes_of};
 use qc_containers::Memory;
 use qc_grammar::SyntaxFault;
 use qc_js::{Js, Program, held, meets_rules};
+use qc_js_lex::{Lexeme, Scan, lexemes_of};
 use std::alloc::Global;
 
 /// The most bytes that a text may have.
@@ -49,10 +48,9 @@ fn short_js(alloc: Global, bytes: &[u8]) -> Result<Js, JsFault>
 }
 
 // The program of the lexemes of a text.
-#[tactic(auto, using(crate::proofs::Answered::bad_depth, crate::proofs::Answered::bad_parse, crate::proofs::Answered::few_lexemes))]
 fn program_of(alloc: Global, bytes: &[u8], lexemes: &[Lexeme]) -> Result<Js, JsFault>
     requires short { length bytes.now ≤ most_bytes }
-    requires scanned { scan bytes.now ≡ Ok lexemes.now }
+    requires scanned { IsScan bytes.now lexemes.now }
     ensures { Answers bytes.now result }
 {
     if !is_shallow(lexemes, MOST_OPEN) {
@@ -66,10 +64,9 @@ fn program_of(alloc: Global, bytes: &[u8], lexemes: &[Lexeme]) -> Result<Js, JsF
 }
 
 // The program, if it meets the rules.
-#[tactic(auto, using(crate::proofs::Answered::is_read, crate::proofs::Answered::bad_rules))]
 fn checked(alloc: Global, bytes: &[u8], lexemes: &[Lexeme], program: Program) -> Result<Js, JsFault>
     requires short { length bytes.now ≤ most_bytes }
-    requires scanned { scan bytes.now ≡ Ok lexemes.now }
+    requires scanned { IsScan bytes.now lexemes.now }
     requires shallow { is_shallow most_open lexemes.now ≡ true }
     requires parsed { Spells Reads lexemes.now program }
     ensures { Answers bytes.now result }

@@ -2,11 +2,11 @@
 ghost use Rattle.std.specs.Prelude.{◌≡◌, pred, IfOk, OnOk};
 ghost use Rattle.qc_js_text.specs.inner.Actions as spec;
 
-use crate::lexeme::Lexeme;
 use crate::value::Value;
 use qc_containers::{Chars, Memory};
 use qc_grammar::Stack;
 use qc_js::Expr;
+use qc_js_lex::Lexeme;
 use qc_rt::Rt;
 use std::alloc::Global;
 

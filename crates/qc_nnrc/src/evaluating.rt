@@ -7,13 +7,13 @@ ghost use Rattle.qc_nnrc.specs.Variables.{look};
 ghost use Rattle.qc_ops.specs.Operands.{found};
 ghost use Rattle.qc_ops.specs.Operators.{binary, unary};
 ghost use Rattle.qc_trees.specs.Branches as forms;
-ghost use Rattle.qc_ops.specs.HeldOperands.{GivesHeld};
+ghost use Rattle.qc_data.specs.HeldOperands.{GivesHeld};
 
 use crate::bindings::Frame;
 use crate::chain::{Chain, binding};
 use crate::tree::Nnrc;
-use qc_data::{Datum, Halt, Items, copy};
-use qc_ops::{Binary, Held, Unary, apply1, apply2_taking};
+use qc_data::{Datum, Halt, Held, Items, copy};
+use qc_ops::{Binary, Unary, apply1, apply2_taking};
 use qc_trees::{bool_of, field_of, global_of, items_of};
 use qc_types::World;
 use std::alloc::Global;

@@ -2,15 +2,15 @@
 ghost use Rattle.qc_data.specs.Outcome.{and_then, bits64, Gives, GivesRef};
 ghost use Rattle.qc_nnrs.specs.Meaning.{class_of, expr, value_in};
 ghost use Rattle.qc_nnrs_store.specs.Chains.{frame_of};
-ghost use Rattle.qc_ops.specs.HeldOperands.{GivesHeld};
+ghost use Rattle.qc_data.specs.HeldOperands.{GivesHeld};
 ghost use Rattle.qc_ops.specs.Operands.{found};
 ghost use Rattle.qc_ops.specs.Operators.{binary, unary};
 ghost use Rattle.qc_trees.specs.Branches as forms;
 
 use crate::tree::NnrsExpr;
-use qc_data::{Datum, Halt, copy};
+use qc_data::{Datum, Halt, Held, copy};
 use qc_nnrs_store::{Chain, value_in};
-use qc_ops::{Binary, Held, Unary, apply1, apply2_taking};
+use qc_ops::{Binary, Unary, apply1, apply2_taking};
 use qc_trees::{bool_of, field_of, global_of};
 use qc_types::World;
 use std::alloc::Global;

@@ -5,13 +5,13 @@ ghost use Rattle.qc_nra.specs.Meaning.{nra};
 ghost use Rattle.qc_nra.specs.inner.Added.{Adds};
 ghost use Rattle.qc_ops.specs.Operators.{binary, unary};
 ghost use Rattle.qc_trees.specs.Branches as branches;
-ghost use Rattle.qc_ops.specs.HeldOperands.{GivesHeld};
+ghost use Rattle.qc_data.specs.HeldOperands.{GivesHeld};
 
 use crate::operands::{add_beside, fields_of, only_bag, product_of};
 use crate::tree::Nra;
 use qc_containers::Share;
-use qc_data::{Datum, Halt, Items, copy};
-use qc_ops::{Binary, Held, Unary, apply1, apply2_taking};
+use qc_data::{Datum, Halt, Held, Items, copy};
+use qc_ops::{Binary, Unary, apply1, apply2_taking};
 use qc_trees::{bool_of, field_of, global_of, items_of};
 use qc_types::World;
 use std::alloc::Global;

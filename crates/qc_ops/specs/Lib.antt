@@ -10,4 +10,3 @@ pub mod Sides
 pub mod Sorting
 pub mod Grouping
 pub mod Operators
-pub mod HeldOperands

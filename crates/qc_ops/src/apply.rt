@@ -2,7 +2,7 @@
 ghost use Rattle.std.specs.Prelude.{ℤ};
 ghost use Rattle.qc_data.specs.declared.data.Datum.{Datum};
 ghost use Rattle.qc_data.specs.Outcome.{any_size, bits64, within, Agrees, Gives};
-ghost use Rattle.qc_ops.specs.HeldOperands.{datum_of};
+ghost use Rattle.qc_data.specs.HeldOperands.{datum_of};
 ghost use Rattle.qc_ops.specs.Operators.{binary, unary};
 
 use crate::aggregates::{average, count, maximum, minimum, sum};
@@ -10,7 +10,6 @@ use crate::bags::{
     bag_of, distinct, equality, except, flattened, intersection, membership, only_member, union,
 };
 use crate::grouping::grouped;
-use crate::held::Held;
 use crate::numbers::{
     absolute, addition, greater, lesser, multiplication, negative, quotient, remainder, subtraction,
 };
@@ -20,7 +19,7 @@ use crate::sides::{cast, class_value, content, on_left, on_right};
 use crate::sorting::ordered;
 use crate::texts::{joined, likeness};
 use crate::truths::{conjunction, disjunction, is_below, is_not_above, negation};
-use qc_data::{Datum, Halt};
+use qc_data::{Datum, Halt, Held};
 use qc_types::Classes;
 use std::alloc::Global;
 

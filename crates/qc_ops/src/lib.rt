@@ -8,7 +8,6 @@ mod columns;
 mod copying;
 mod divisor;
 mod grouping;
-mod held;
 mod joining;
 mod numbers;
 mod op;
@@ -21,5 +20,4 @@ mod truths;
 
 pub use apply::{apply1, apply2, apply2_taking};
 pub use divisor::Divisor;
-pub use held::Held;
 pub use op::{Binary, Keys, Names, Unary};

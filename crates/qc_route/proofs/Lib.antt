@@ -1,1 +1,4 @@
-pub mod Composed
+pub mod Grown
+pub mod Kept
+pub mod Pieces
+pub mod Walked

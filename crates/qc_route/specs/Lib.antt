@@ -1,1 +1,3 @@
-pub mod Answering
+pub mod inner
+pub mod Paths
+pub mod Stages

@@ -1,6 +1,16 @@
-//! The way of queries through the stages of the compiler to programs on JSON.
+//! The way of queries through the compiler: words of a path, stages, the edges between them, and whole routes.
 #![tactic(auto)]
 
-mod whole;
+mod advancing;
+mod edge;
+mod path;
+mod routing;
+mod stage;
+mod word;
 
-pub use whole::program_of;
+pub use advancing::advance;
+pub use edge::Edge;
+pub use path::{NoPath, Path, path_of};
+pub use routing::route;
+pub use stage::Stage;
+pub use word::Word;

@@ -7,7 +7,7 @@ use Rattle.qc_data.specs.declared.data.Json.{Json}
 use Rattle.qc_data.specs.declared.halt.Halt.{Halt}
 use Rattle.qc_rt.specs.Seen.{shown}
 use Rattle.qc_rt.proofs.Shown.{shown-seen}
-use Rattle.qc_runtime.specs.inner.Giving.{GivesSeen}
+use Rattle.qc_seen.specs.Giving.{GivesSeen}
 
 -- an answer in which the value is seen is what shows the value
 pub answered : (o : Outcome Datum) (r : Result Json Halt) → GivesSeen o r

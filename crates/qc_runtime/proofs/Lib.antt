@@ -6,5 +6,4 @@ pub mod Integers
 pub mod ObjectLaws
 pub mod Ordered
 pub mod Parts
-pub mod Plain
 pub mod Rows

@@ -7,12 +7,11 @@ ghost use Rattle.qc_ops.specs.Numbers.{average, count, greatest_of, least_of, ma
 ghost use Rattle.qc_ops.specs.Operands.{optional};
 ghost use Rattle.qc_rt.specs.Parameters.{one};
 ghost use Rattle.qc_rt.specs.Seen.{seen};
-ghost use Rattle.qc_runtime.specs.inner.Giving.{GivesSeen};
+ghost use Rattle.qc_seen.specs.Giving.{GivesSeen};
 
-use crate::arguments::the_only;
-use crate::kinds::{int_of, items_of, made, optional};
 use qc_containers::Memory;
 use qc_data::{Halt, Json};
+use qc_seen::{int_of, items_of, made, optional, the_only};
 use std::alloc::Global;
 
 pub(crate) fn count(args: &[Json]) -> Result<Json, Halt>

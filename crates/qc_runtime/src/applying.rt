@@ -5,7 +5,7 @@ ghost use Rattle.qc_data.specs.declared.data.Json.{Json};
 ghost use Rattle.qc_rt.specs.Laws.{Encodes1, Encodes2};
 ghost use Rattle.qc_rt.specs.Runtime.{runtime, value_on};
 ghost use Rattle.qc_rt.specs.Seen.{seen};
-ghost use Rattle.qc_runtime.specs.inner.Giving.{GivesSeen};
+ghost use Rattle.qc_seen.specs.Giving.{GivesSeen};
 ghost use Rattle.qc_rt.specs.declared.function.Rt.{Rt};
 
 use crate::aggregates::{average, count, maximum, minimum, sum};
@@ -24,10 +24,10 @@ use qc_data::{Halt, Json, Jsons};
 use qc_rt::Rt;
 use std::alloc::Global;
 
-/// The function's value on the arguments in 64 bits. `Range`: an integer that it makes has more; `Stuck`: there are more
-/// or fewer arguments than it takes, or one is of another kind; `Memory`: memory was wanting. On all arguments the value
-/// at any two bounds agrees with that at any size. On encodings of data each function of an operator gives the encoding
-/// of the operator's value.
+/// The function's value on the arguments in 64 bits. `Range`: an integer that it makes has more; `Stuck`: there are
+/// more or fewer arguments than it takes, or one is of another kind; `Memory`: memory was wanting. On all arguments
+/// the value at any two bounds agrees with that at any size. On encodings of data each function of an operator gives
+/// the encoding of the operator's value.
 pub fn apply_rt(alloc: Global, f: Rt, args: &Jsons) -> Result<Json, Halt>
     ensures value { Gives (runtime bits64 f args.now) result }
     ensures agrees { (function : Rt) (arguments : List Json) (low high : ℤ)

@@ -5,12 +5,12 @@ ghost use Rattle.qc_data.specs.Outcome.{gather};
 ghost use Rattle.qc_ops.specs.Bags.{bag_of, flattened, only_member, union};
 ghost use Rattle.qc_rt.specs.Parameters.{one, two};
 ghost use Rattle.qc_rt.specs.Seen.{seen};
-ghost use Rattle.qc_runtime.specs.inner.Giving.{GivesItems, GivesSeen};
+ghost use Rattle.qc_seen.specs.Giving.{GivesSeen};
+ghost use Rattle.qc_runtime.specs.inner.Giving.{GivesItems};
 
-use crate::arguments::{the_only, the_two};
-use crate::kinds::{items_of, optional};
 use qc_containers::Memory;
 use qc_data::{Halt, Json, Jsons, copy_json};
+use qc_seen::{items_of, optional, the_only, the_two};
 use std::alloc::Global;
 
 #[tactic(auto, using(qc_rt::proofs::SeenLaws::forms))]

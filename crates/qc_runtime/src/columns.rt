@@ -9,9 +9,9 @@ ghost use Rattle.qc_rt.specs.Seen.{seen};
 ghost use Rattle.qc_runtime.specs.inner.Columns.{atom, columns_hold, GivesKeyed, GivesValues, is_of, key_values};
 ghost use Rattle.qc_rt.specs.Seen.{fields_seen};
 
-use crate::kinds::fields_of;
 use qc_containers::{Chars, Memory};
 use qc_data::{Datum, Halt, Items, Json, Members};
+use qc_seen::fields_of;
 use std::alloc::Global;
 
 // A row beside its values at the keys.

@@ -14,15 +14,14 @@ ghost use Rattle.qc_rt.specs.Parameters.{three};
 ghost use Rattle.qc_rt.specs.Runtime.{by_groups};
 ghost use Rattle.qc_rt.specs.Seen.{seen};
 ghost use Rattle.qc_seen.specs.Gathering.{Gathers};
-ghost use Rattle.qc_runtime.specs.inner.Giving.{GivesBag, GivesItems, GivesSeen};
+ghost use Rattle.qc_seen.specs.Giving.{GivesSeen};
+ghost use Rattle.qc_runtime.specs.inner.Giving.{GivesBag, GivesItems};
 
-use crate::arguments::{name_of, names_of, the_three};
-use crate::kinds::{fields_of, items_of};
 use crate::objects::{is_among, part_of};
 use qc_containers::{Chars, Memory, Share};
 use qc_data::{Datum, Halt, Json, Jsons, copy_json};
 use qc_keys::{Key, Tally};
-use qc_seen::{Gathering, marks};
+use qc_seen::{Gathering, fields_of, items_of, marks, name_of, names_of, the_three};
 use std::alloc::Global;
 
 #[tactic(auto, using(qc_rt::proofs::SeenLaws::forms))]

@@ -3,11 +3,9 @@
 
 mod aggregates;
 mod applying;
-mod arguments;
 mod arrays;
 mod columns;
 mod grouping;
-mod kinds;
 mod numbers;
 mod objects;
 mod sameness;

@@ -6,12 +6,11 @@ ghost use Rattle.qc_ops.specs.Numbers.{remainder, subtraction};
 ghost use Rattle.qc_rt.specs.Parameters.{one, two};
 ghost use Rattle.qc_rt.specs.Runtime.{by_divisor};
 ghost use Rattle.qc_rt.specs.Seen.{seen};
-ghost use Rattle.qc_runtime.specs.inner.Giving.{GivesSeen};
+ghost use Rattle.qc_seen.specs.Giving.{GivesSeen};
 
-use crate::arguments::{divisor_of, the_only, the_two};
-use crate::kinds::{int_of, made};
 use qc_data::{Halt, Json};
 use qc_ops::Divisor;
+use qc_seen::{divisor_of, int_of, made, the_only, the_two};
 
 pub(crate) fn negative(args: &[Json]) -> Result<Json, Halt>
     ensures { GivesSeen (one (negative bits64) (map seen args.now)) result }

@@ -9,14 +9,13 @@ ghost use Rattle.qc_ops.specs.Records.{projection, put_new, record_of, same_at};
 ghost use Rattle.qc_rt.specs.Parameters.{none, two};
 ghost use Rattle.qc_rt.specs.Runtime.{by_name, by_names};
 ghost use Rattle.qc_rt.specs.Seen.{has_marker, seen};
-ghost use Rattle.qc_runtime.specs.inner.Giving.{GivesFields, GivesSeen};
+ghost use Rattle.qc_seen.specs.Giving.{GivesSeen};
+ghost use Rattle.qc_runtime.specs.inner.Giving.{GivesFields};
 ghost use Rattle.qc_rt.specs.Seen.{fields_seen};
 
-use crate::arguments::{name_of, names_of, the_two};
-use crate::kinds::{fields_of, single};
 use qc_containers::{Chars, Memory, Share};
 use qc_data::{Halt, Json, Jsons, Members, copy_json};
-use qc_seen::is_same;
+use qc_seen::{fields_of, is_same, name_of, names_of, single, the_two};
 use std::alloc::Global;
 
 #[tactic(auto, using(qc_rt::proofs::SeenLaws::forms))]

@@ -4,13 +4,11 @@ ghost use Rattle.qc_ops.specs.Bags.{distinct, except, intersection, membership};
 ghost use Rattle.qc_ops.specs.Sameness.{equality};
 ghost use Rattle.qc_rt.specs.Parameters.{one, two};
 ghost use Rattle.qc_rt.specs.Seen.{seen};
-ghost use Rattle.qc_runtime.specs.inner.Giving.{GivesSeen};
+ghost use Rattle.qc_seen.specs.Giving.{GivesSeen};
 
-use crate::arguments::{the_only, the_two};
-use crate::kinds::items_of;
 use qc_bags::Keep;
 use qc_data::{Halt, Json};
-use qc_seen::{has_same, is_same, kept};
+use qc_seen::{has_same, is_same, items_of, kept, the_only, the_two};
 use std::alloc::Global;
 
 #[tactic(auto, using(qc_rt::proofs::SeenLaws::forms))]

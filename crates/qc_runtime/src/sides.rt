@@ -7,14 +7,14 @@ ghost use Rattle.qc_ops.specs.Sides.{class_value, content, on_left, on_right};
 ghost use Rattle.qc_rt.specs.Parameters.{as_side, one, two};
 ghost use Rattle.qc_rt.specs.Runtime.{by_name, by_names, cast_among, leftness, payload};
 ghost use Rattle.qc_rt.specs.Seen.{seen};
-ghost use Rattle.qc_runtime.specs.inner.Giving.{GivesClass, GivesClassIn, GivesSeen, GivesSide, GivesSideIn};
+ghost use Rattle.qc_seen.specs.Giving.{GivesSeen};
+ghost use Rattle.qc_runtime.specs.inner.Giving.{GivesClass, GivesClassIn, GivesSide, GivesSideIn};
 ghost use Rattle.qc_rt.specs.JsonKinds.{class_in, class_named, class_of_two, side_in, side_named};
 
-use crate::arguments::{name_of, names_of, the_only, the_two};
-use crate::kinds::{optional, single};
 use crate::objects::is_among;
 use qc_containers::{Chars, Memory};
 use qc_data::{Halt, Json, Members, copy_json};
+use qc_seen::{name_of, names_of, optional, single, the_only, the_two};
 use std::alloc::Global;
 
 #[tactic(auto, using(qc_rt::proofs::SeenLaws::forms))]
@@ -78,17 +78,17 @@ fn class_in(members: &[(Chars, Json)]) -> Result<Class<'_>, Halt>
     ensures { GivesClassIn (class_in members.now) result }
 {
     match members {
-        [class, data] => class_of_two(class, data),
+        [class, content] => class_of_two(class, content),
         _ => Err(Halt::Stuck),
     }
 }
 
 // The class's value of two members.
-fn class_of_two<'a>(class: &'a (Chars, Json), data: &'a (Chars, Json)) -> Result<Class<'a>, Halt>
-    ensures { GivesClassIn (class_of_two class.now data.now) result }
+fn class_of_two<'a>(class: &'a (Chars, Json), content: &'a (Chars, Json)) -> Result<Class<'a>, Halt>
+    ensures { GivesClassIn (class_of_two class.now content.now) result }
 {
-    if class.0.as_str() == "$class" && data.0.as_str() == "$data" {
-        class_named(&class.1, &data.1)
+    if class.0.as_str() == "$class" && content.0.as_str() == "$data" {
+        class_named(&class.1, &content.1)
     } else {
         Err(Halt::Stuck)
     }

@@ -8,13 +8,13 @@ ghost use Rattle.qc_ops.specs.inner.Columns.{values_cmp};
 ghost use Rattle.qc_rt.specs.Parameters.{three};
 ghost use Rattle.qc_rt.specs.Runtime.{by_keys};
 ghost use Rattle.qc_rt.specs.Seen.{seen};
-ghost use Rattle.qc_runtime.specs.inner.Giving.{GivesBag, GivesSeen};
+ghost use Rattle.qc_seen.specs.Giving.{GivesSeen};
+ghost use Rattle.qc_runtime.specs.inner.Giving.{GivesBag};
 
-use crate::arguments::{keys_of, the_three};
 use crate::columns::{Keyed, are_columns, with_values};
-use crate::kinds::items_of;
 use qc_containers::{Chars, Memory};
 use qc_data::{Datum, Halt, Items, Json, Jsons, cmp, copy_json};
+use qc_seen::{items_of, keys_of, the_three};
 use std::alloc::Global;
 use std::cmp::Ordering;
 

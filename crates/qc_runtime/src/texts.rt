@@ -4,13 +4,12 @@ ghost use Rattle.qc_ops.specs.Texts.{joined, likeness};
 ghost use Rattle.qc_rt.specs.Parameters.{two};
 ghost use Rattle.qc_rt.specs.Runtime.{by_pattern};
 ghost use Rattle.qc_rt.specs.Seen.{seen};
-ghost use Rattle.qc_runtime.specs.inner.Giving.{GivesSeen};
+ghost use Rattle.qc_seen.specs.Giving.{GivesSeen};
 
-use crate::arguments::the_two;
-use crate::kinds::text_of;
 use qc_containers::Chars;
 use qc_data::{Halt, Json};
 use qc_like::like;
+use qc_seen::{text_of, the_two};
 use std::alloc::Global;
 
 #[tactic(auto, using(qc_rt::proofs::SeenLaws::forms))]

@@ -4,11 +4,10 @@ ghost use Rattle.qc_data.specs.Outcome.{Gives};
 ghost use Rattle.qc_ops.specs.Truths.{compared, conjunction, disjunction, is_below, is_not_above, negation};
 ghost use Rattle.qc_rt.specs.Parameters.{one, two};
 ghost use Rattle.qc_rt.specs.Seen.{seen};
-ghost use Rattle.qc_runtime.specs.inner.Giving.{GivesSeen};
+ghost use Rattle.qc_seen.specs.Giving.{GivesSeen};
 
-use crate::arguments::{the_only, the_two};
-use crate::kinds::bool_of;
 use qc_data::{Halt, Json};
+use qc_seen::{bool_of, the_only, the_two};
 use std::cmp::Ordering;
 
 #[tactic(auto, using(qc_rt::proofs::SeenLaws::forms))]

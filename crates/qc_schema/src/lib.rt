@@ -18,4 +18,4 @@ pub use faults::{InputFault, SchemaFault};
 pub use input::read_input;
 pub use reading::read_json;
 pub use schema::read_schema;
-pub use writing::json_text;
+pub use writing::{json_text, tree_text};

@@ -36,8 +36,8 @@ fn hand_utf8(text: &String)
     let _text = text.as_str();
 }
 
-// The compact text of a tree.
-pub(crate) fn tree_text(alloc: Global, j: &Json) -> Result<String, Memory>
+/// The compact text of a tree, as `json_text` gives it, as a string that can be added to.
+pub fn tree_text(alloc: Global, j: &Json) -> Result<String, Memory>
     ensures { IfOk result (λ text. string_bytes text ≡ text_of j.now) }
 {
     match to_string(alloc, &Sent { tree: j }) {

@@ -1,5 +1,6 @@
 pub mod Gathered
 pub mod KeptItems
+pub mod Plain
 pub mod TwinForms
 pub mod TwinLaws
 pub mod TwinObjects

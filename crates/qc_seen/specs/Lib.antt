@@ -1,2 +1,4 @@
 pub mod Gathering
+pub mod Giving
 pub mod Twins
+pub mod inner

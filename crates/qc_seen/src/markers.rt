@@ -5,8 +5,8 @@ ghost use Rattle.qc_rt.specs.Seen.{has_marker};
 
 use qc_data::Members;
 
-/// Whether some name is a marker. Of most objects the first name tells it, since all markers come before it.
-pub fn has_marker(members: &Members) -> bool
+// Whether some name is a marker. Of most objects the first name tells it, since all markers come before it.
+pub(crate) fn has_marker(members: &Members) -> bool
     ensures { result ≡ has_marker members.now }
 {
     !begins_behind(members) && seeks_marker(members)

@@ -1,14 +1,13 @@
 // Operands by their kind.
 ghost use Rattle.qc_data.specs.Kinds.{as_coll};
 ghost use Rattle.qc_data.specs.Outcome.{Gives, GivesRef};
-ghost use Rattle.qc_ops.specs.HeldOperands.{GivesHeld, datum_of};
+ghost use Rattle.qc_data.specs.HeldOperands.{GivesHeld, datum_of};
 ghost use Rattle.qc_ops.specs.Operands.{as_bool, found};
 ghost use Rattle.qc_ops.specs.Records.{field};
 ghost use Rattle.qc_types.specs.Schemas.{global};
 
 use qc_containers::Name;
-use qc_data::{Datum, Halt, Items, copy};
-use qc_ops::Held;
+use qc_data::{Datum, Halt, Held, Items, copy};
 use qc_types::World;
 use std::alloc::Global;
 

@@ -6,7 +6,7 @@ use Rattle.qc_work.specs.declared.refusal.File.TheVariants.{Schema, Query, Input
 use Rattle.qc_work.specs.declared.refusal.Refusal.{Refusal}
 use Rattle.qc_work.specs.declared.refusal.Refusal.TheVariants.{Usage, ReadFault, TooLong, BadSchema, BadScan}
 use Rattle.qc_work.specs.declared.refusal.Refusal.TheVariants.{TooManyTokens, BadSyntax, BadType}
-use Rattle.qc_work.specs.declared.refusal.Refusal.TheVariants.{BadInput, Range, WriteFault, Memory}
+use Rattle.qc_work.specs.declared.refusal.Refusal.TheVariants.{BadInput, BadJs, Range, Stuck, WriteFault, Memory}
 
 -- the exit status of a call that is refused
 abbrev pub status_of : Refusal → ℕ
@@ -19,7 +19,9 @@ status_of TooManyTokens = 1
 status_of (BadSyntax at) = 1
 status_of (BadType at) = 1
 status_of BadInput = 1
+status_of BadJs = 1
 status_of Range = 6
+status_of Stuck = 7
 status_of WriteFault = 4
 status_of Memory = 5
 
@@ -41,6 +43,8 @@ refusal_text TooManyTokens = codes "TooManyTokens"
 refusal_text (BadSyntax at) = codes "BadSyntax at token " ++ decimal at
 refusal_text (BadType at) = codes "BadType at token " ++ decimal at
 refusal_text BadInput = codes "BadInput"
+refusal_text BadJs = codes "BadJs"
 refusal_text Range = codes "Range"
+refusal_text Stuck = codes "Stuck"
 refusal_text WriteFault = codes "WriteFault"
 refusal_text Memory = codes "Memory"

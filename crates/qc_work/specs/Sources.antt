@@ -1,4 +1,5 @@
--- Source languages behind one face, a row each: the table of its tokens, which query tokens spell, and what it means.
+-- Source languages behind one face, a row each: the table of its tokens, which query tokens spell, what it means, and
+-- where its way through the compiler begins.
 use Rattle.std.specs.Prelude.{List}
 use Rattle.qc_data.specs.declared.data.Datum.{Datum}
 use Rattle.qc_data.specs.Outcome.{Mode, Outcome}
@@ -10,6 +11,8 @@ use Rattle.qc_types.specs.Schemas.{SchemaOf, WorldOf}
 use Rattle.qc_source.specs.declared.fault.QueryFault.{QueryFault}
 use Rattle.qc_oql.specs.Queries as oql
 use Rattle.qc_oql_tree.specs.Meaning as oql_meaning
+use Rattle.qc_route.specs.declared.stage.Stage.{Stage}
+use Rattle.qc_route.specs.declared.stage.Stage.TheVariants as stage
 use Rattle.qc_work.specs.declared.sources.Query.{Query}
 use Rattle.qc_work.specs.declared.sources.Query.TheVariants as query
 use Rattle.qc_work.specs.declared.sources.Source.{Source}
@@ -34,3 +37,7 @@ type_of (query.Oql typed) = typed.ty
 -- the query's outcome, by mode and world
 abbrev pub meaning_of : Query → Mode → WorldOf → Outcome Datum
 meaning_of (query.Oql typed) mode world = oql_meaning.query mode world typed.query
+
+-- the query as the first stage of its way
+abbrev pub stage_of : Query → Stage
+stage_of (query.Oql typed) = stage.Oql typed

@@ -1,18 +1,19 @@
-// What is done with a query: the line of its type, its program, and the line of its answer.
+// What is done with a query: the line of its type, its program, and the line of its answer; and with a script.
 ghost use Rattle.std.specs.Prelude.{◌≡◌, ◌⊎◌, IfOk, MatchResult};
 ghost use Rattle.std.specs.String.{string_bytes};
 ghost use Rattle.qc_lang.specs.Keeping.{IsOf};
-ghost use Rattle.qc_work.specs.Work.{line, Check, Compile, Run};
+ghost use Rattle.qc_work.specs.Work.{line, Check, Compile, Run, Exec};
 ghost use Rattle.qc_work.specs.Promises.{Acts, HasItsType};
 ghost use Rattle.qc_work.specs.Texts.{bytes_of};
 
 use crate::refusal::Refusal;
 use crate::sources::{Checked, compiled, evaluate, type_of};
 use qc_containers::Memory;
-use qc_data::Halt;
+use qc_data::{Halt, Json};
 use qc_js::{Js, held};
+use qc_js_run::exec;
 use qc_js_text::one_program;
-use qc_schema::{datum_text, type_text};
+use qc_schema::{datum_text, tree_text, type_text};
 use qc_types::World;
 use std::alloc::Global;
 
@@ -57,6 +58,18 @@ pub fn answer_line(alloc: Global, checked: &Checked, world: &World) -> Result<Te
         Ok(answer) => Ok(Text::Line(line(datum_text(alloc, &answer)?)?)),
         Err(Halt::Range) => Err(Refusal::Range),
         Err(Halt::Stuck) => unreachable!(),
+        Err(Halt::Memory) => Err(Refusal::Memory),
+    }
+}
+
+/// The JSON that a program answers on an input, and a line feed.
+pub fn result_line(alloc: Global, js: &Js, input: &Json) -> Result<Text, Refusal>
+    ensures { Acts bytes_of (Exec js.now input.now) result }
+{
+    match exec(alloc, js, input) {
+        Ok(answer) => Ok(Text::Line(line(tree_text(alloc, &answer)?)?)),
+        Err(Halt::Range) => Err(Refusal::Range),
+        Err(Halt::Stuck) => Err(Refusal::Stuck),
         Err(Halt::Memory) => Err(Refusal::Memory),
     }
 }

@@ -1,15 +1,20 @@
-// The texts of a job's files, read: a schema, tokens and a query, an input, or why not.
+// The texts of a job's files, read: a schema, tokens and a query, a script, an input, or why not.
 ghost use Rattle.std.specs.Prelude.{◌≤◌, length, IfOk};
+ghost use Rattle.qc_schema.specs.JsonReading.{Means};
 ghost use Rattle.qc_schema.specs.SchemaFile.{MeansSchema};
 ghost use Rattle.qc_source.specs.Queries.{IsTokens};
 ghost use Rattle.qc_work.specs.Reading.{IsBadSchema, IsBadScan, IsBadQuery, IsInput, IsBadInput};
+ghost use Rattle.qc_work.specs.Reading.{IsScript, IsBadScript, IsBadTree};
 ghost use Rattle.qc_work.specs.Sources.{IsQuery, table_of};
 ghost use Rattle.qc_work.specs.Promises.{Computes, HasItsType};
 
 use crate::refusal::Refusal;
 use crate::sources::{Query, Source, read_query, table_of};
+use qc_data::Json;
+use qc_js::Js;
+use qc_js_text::read_js;
 use qc_lex::Words;
-use qc_schema::{read_input, read_schema};
+use qc_schema::{read_input, read_json, read_schema};
 use qc_source::tokens_of;
 use qc_types::{Schema, World};
 use std::alloc::Global;
@@ -49,4 +54,18 @@ pub fn input_in(alloc: Global, schema: &Schema, bytes: &[u8]) -> Result<World, R
     ensures { Computes (IsInput schema.now bytes.now) (IsBadInput schema.now bytes.now) result }
 {
     Ok(read_input(alloc, schema, bytes)?)
+}
+
+/// The program that the bytes spell.
+pub fn script_in(alloc: Global, bytes: &[u8]) -> Result<Js, Refusal>
+    ensures { Computes (IsScript bytes.now) (IsBadScript bytes.now) result }
+{
+    Ok(read_js(alloc, bytes)?)
+}
+
+/// The JSON tree that the bytes mean.
+pub fn tree_in(alloc: Global, bytes: &[u8]) -> Result<Json, Refusal>
+    ensures { Computes (Means bytes.now) (IsBadTree bytes.now) result }
+{
+    Ok(read_json(alloc, bytes)?)
 }

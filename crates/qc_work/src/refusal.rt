@@ -1,5 +1,6 @@
 // Why a call is refused, and its exit status.
 use qc_containers::Memory;
+use qc_js_text::JsFault;
 use qc_schema::{InputFault, SchemaFault};
 use qc_source::QueryFault;
 
@@ -31,10 +32,14 @@ pub enum Refusal {
     BadSyntax(u32),
     /// The query has no type, which shows first at this token.
     BadType(u32),
-    /// The file has no input of the schema.
+    /// The file has no input: no world of the schema, or for a script no JSON.
     BadInput,
-    /// The query leaves 64 bits in the world of the input.
+    /// The script is no program.
+    BadJs,
+    /// The query or the script leaves 64 bits on the input.
     Range,
+    /// A value of the script is of another kind than its use wants.
+    Stuck,
     /// The output took only a front of the text.
     WriteFault,
     /// Memory was wanting.
@@ -97,6 +102,22 @@ impl From<InputFault> for Refusal {
     }
 }
 
+impl From<JsFault> for Refusal {
+    ghost use Rattle.std.specs.Prelude.{◌≡◌};
+    ghost use Rattle.qc_work.specs.Causes.{of_script};
+
+    ghost from_gives = { λ fault made. made ≡ of_script fault };
+
+    fn from(fault: JsFault) -> Refusal {
+        match fault {
+            JsFault::TooLong => Refusal::TooLong(File::Script),
+            JsFault::BadScan { at } => Refusal::BadScan(File::Script, at),
+            JsFault::BadJs => Refusal::BadJs,
+            JsFault::Memory => Refusal::Memory,
+        }
+    }
+}
+
 impl Refusal {
     ghost use Rattle.std.specs.Prelude.{◌≡◌};
     ghost use Rattle.qc_work.specs.Refusals.{status_of};
@@ -114,8 +135,10 @@ impl Refusal {
             | Refusal::TooManyTokens
             | Refusal::BadSyntax(_)
             | Refusal::BadType(_)
-            | Refusal::BadInput => 1,
+            | Refusal::BadInput
+            | Refusal::BadJs => 1,
             Refusal::Range => 6,
+            Refusal::Stuck => 7,
             Refusal::WriteFault => 4,
             Refusal::Memory => 5,
         }

@@ -1,8 +1,9 @@
 // The source languages behind one face.
 ghost use Rattle.std.specs.Prelude.{◌≡◌, ◌≤◌, length, IfOk, MatchResult};
 ghost use Rattle.qc_data.specs.Outcome.{bits64, Gives as HasOutcome};
-ghost use Rattle.qc_work.specs.Sources.{IsQuery, IsFault, meaning_of, table_of, type_of};
-ghost use Rattle.qc_route.specs.Answering.{Answers};
+ghost use Rattle.qc_route.specs.Stages.{Keeps};
+ghost use Rattle.qc_route.specs.declared.stage.Stage.TheVariants.{Js as Program};
+ghost use Rattle.qc_work.specs.Sources.{IsQuery, IsFault, meaning_of, stage_of, table_of, type_of};
 ghost use Rattle.qc_work.specs.Promises.{HasItsType, IsReady};
 
 use qc_containers::Memory;
@@ -10,7 +11,7 @@ use qc_data::{Datum, Halt};
 use qc_js::Js;
 use qc_lex::{Table, Words};
 use qc_oql::TypedQuery;
-use qc_route::program_of;
+use qc_route::{Path, Stage, route};
 use qc_source::QueryFault;
 use qc_types::{Schema, Ty, World};
 use std::alloc::Global;
@@ -79,12 +80,22 @@ pub fn evaluate(alloc: Global, query: &Query, world: &World) -> Result<Datum, Ha
     }
 }
 
-/// The query's program.
+/// The query's program, at the end of the path through all stages.
 pub fn compiled(alloc: Global, schema: &Schema, query: Query) -> Result<Js, Memory>
     requires { IsReady schema.now query }
-    ensures { IfOk result (λ js. Answers schema.now (meaning_of query) js) }
+    ensures { IfOk result (λ js. Keeps schema.now (stage_of query) (Program js)) }
+{
+    match route(alloc, schema, stage_of(query), &Path::usual())? {
+        Stage::Js(js) => Ok(js),
+        _ => unreachable!(),
+    }
+}
+
+/// The query as the first stage of its way.
+fn stage_of(query: Query) -> Stage
+    ensures { result ≡ stage_of query }
 {
     match query {
-        Query::Oql(typed) => program_of(alloc, schema, typed),
+        Query::Oql(typed) => Stage::Oql(typed),
     }
 }

@@ -1,9 +1,16 @@
 -- The laws of jobs, where texts are told: each reads one work or is refused for one reason, and so is its work.
-use Rattle.std.proofs.Common.{◌≡◌, ◌≢◌, ◌⊎◌, inl, inr, sym, ◌∙◌, ap, ℕ, List, [], ◌∷◌, ◌++◌, Option, Some, None, codes}
+use Rattle.std.proofs.Common.{◌≡◌, ◌≢◌, ◌⊎◌, inl, inr, sym, ◌∙◌, ap, ℕ, List, [], ◌∷◌, ◌++◌, Option, Some, None, Err}
+use Rattle.std.proofs.Common.{codes}
 use Rattle.qc_data.specs.Decoding.{dec}
 use Rattle.qc_data.specs.declared.data.Datum.{Datum}
 use Rattle.qc_data.specs.declared.data.Json.{Json}
+use Rattle.qc_data.specs.Outcome.{Outcome, Halts, Range, Stuck, bits64}
 use Rattle.qc_io.specs.Device.{Texts}
+use Rattle.qc_js.specs.declared.tree.Program.{Program}
+use Rattle.qc_js.specs.Meaning.{js}
+use Rattle.qc_js_text.specs.declared.fault.JsFault.TheVariants as script
+use Rattle.qc_js_text.specs.Reading.{Answers}
+use Rattle.qc_js_text.proofs.FaultLaws as js_text
 use Rattle.qc_lang.specs.Keeping.{IsOf}
 use Rattle.qc_types.specs.Schemas.{SchemaOf, WorldOf}
 use Rattle.qc_schema.specs.Inputs.{MeansWorld}
@@ -24,15 +31,17 @@ use Rattle.qc_work.specs.declared.sources.Query.{Query}
 use Rattle.qc_work.specs.declared.sources.Query.TheVariants as query
 use Rattle.qc_work.specs.declared.sources.Source.{Source}
 use Rattle.qc_work.specs.declared.sources.Source.TheVariants as source
-use Rattle.qc_work.specs.Causes.{of_query}
+use Rattle.qc_work.specs.Causes.{of_query, of_script}
 use Rattle.qc_work.specs.Reading.{IsBadSchema, IsForFault, IsBadScan, IsBadQuery, IsInput, IsBadInput}
+use Rattle.qc_work.specs.Reading.{IsScript, IsBadScript, IsBadTree}
 use Rattle.qc_work.specs.Right.{world_in}
 use Rattle.qc_work.specs.Sources.{table_of, IsQuery, IsFault}
 use Rattle.qc_work.specs.Work as work
 use Rattle.qc_work.specs.Work.{Work, IsTextFor, Refuses, IsClear}
-use Rattle.qcert.specs.Jobs.{Subject, Job, Check, Compile, Run}
-use Rattle.qcert.specs.Fetching.{schema_of, tokens_in, query_in, checked_in, input_of, read, names_of, files_of, act}
-use Rattle.qcert.specs.Fetching.{serve}
+use Rattle.qcert.specs.Jobs.{Subject, Job, Check, Compile, Run, Exec}
+use Rattle.qcert.specs.Fetching.{schema_of, tokens_in, query_in, checked_in, input_of, script_in, tree_of, read}
+use Rattle.qcert.specs.Fetching.{names_of}
+use Rattle.qcert.specs.Fetching.{files_of, act, serve}
 use Rattle.qcert.specs.Steps.{Names, firm, pure, then}
 use Rattle.qcert.proofs.StepLaws.{Lawful, Good, IsPartial, firm_lawful, firm_good, pure_good, read_good, then_good}
 use Rattle.qcert.proofs.StepLaws.{then_lawful, AsksFor, firm_asks, pure_asks, read_asks, then_asks, then_nothing}
@@ -71,24 +80,36 @@ input_partial schema bytes = record {
   apart = λ w r m u. u.1 w.datum m.means;
 }
 
+tree_partial : (bytes : List ℕ) → IsPartial (Means bytes) (IsBadTree bytes)
+tree_partial bytes = record {
+  one_value = one_tree bytes;
+  one_fault = λ r q u v. v.0 ∙ sym u.0;
+  apart = λ j r m u. u.1 j m;
+}
+
 -- ---- faults
 
 -- what means one thing, or has one fault but for want of memory, means one thing or is refused for one reason
-fault_partial : {A : Type 0} (Means : A → Type 0) (IsFault : QueryFault → Type 0)
+fault_partial : {A F : Type 0} (of : F → Refusal) (memory : F) (Means : A → Type 0) (IsFault : F → Type 0)
     → ((x y : A) → Means x → Means y → x ≡ y)
-    → ((x : A) (f : QueryFault) → Means x → IsFault f → f ≡ fault.Memory)
-    → ((f g : QueryFault) → f ≢ fault.Memory → g ≢ fault.Memory → IsFault f → IsFault g → f ≡ g)
-    → IsPartial Means (IsForFault IsFault)
-fault_partial Means IsFault one none once = record {
+    → ((x : A) (f : F) → Means x → IsFault f → f ≡ memory)
+    → ((f g : F) → f ≢ memory → g ≢ memory → IsFault f → IsFault g → f ≡ g)
+    → IsPartial Means (IsForFault of memory IsFault)
+fault_partial of memory Means IsFault one none once = record {
   one_value = one;
-  one_fault = λ r q u v. v.3 ∙ ap of_query (once v.0 u.0 v.1 u.1 v.2 u.2) ∙ sym u.3;
+  one_fault = λ r q u v. v.3 ∙ ap of (once v.0 u.0 v.1 u.1 v.2 u.2) ∙ sym u.3;
   apart = λ a r p u. u.1 (none a u.0 p u.2);
 }
 
 tokens_partial : (s : Source) (bytes : List ℕ) → IsPartial (IsTokens (table_of s) bytes) (IsBadScan s bytes)
 tokens_partial s bytes =
-    fault_partial (IsTokens (table_of s) bytes) (IsScanFault (table_of s) bytes) (one_list (table_of s) bytes)
-    (no_scan_fault (table_of s) bytes) (one_scan_fault (table_of s) bytes)
+    fault_partial of_query fault.Memory (IsTokens (table_of s) bytes) (IsScanFault (table_of s) bytes)
+    (one_list (table_of s) bytes) (no_scan_fault (table_of s) bytes) (one_scan_fault (table_of s) bytes)
+
+script_partial : (bytes : List ℕ) → IsPartial (IsScript bytes) (IsBadScript bytes)
+script_partial bytes =
+    fault_partial of_script script.Memory (IsScript bytes) (λ f. Answers bytes (Err f)) (js_text.one_value bytes)
+    (js_text.no_fault bytes) (js_text.one_fault bytes)
 
 -- ---- sources: three lines for each
 
@@ -108,8 +129,8 @@ one_fault source.Oql schema words f g m n u v = oql.one_fault schema words f g m
 query_partial : (s : Source) (schema : SchemaOf) (words : List Placed)
     → IsPartial (IsQuery s schema words) (IsBadQuery s schema words)
 query_partial s schema words =
-    fault_partial (IsQuery s schema words) (IsFault s schema words) (one_query s schema words) (no_fault s schema words)
-    (one_fault s schema words)
+    fault_partial of_query fault.Memory (IsQuery s schema words) (IsFault s schema words) (one_query s schema words)
+    (no_fault s schema words) (one_fault s schema words)
 
 -- an input is a world of its schema
 input_world : (schema : SchemaOf) (bytes : List ℕ) (w : WorldOf) → IsInput schema bytes w → IsOf schema w
@@ -153,6 +174,10 @@ module _ (t : Texts) where
       firm_good t (IsInput schema (codes "{}")) (IsBadInput schema (codes "{}")) (input_partial schema (codes "{}"))
   input_good schema (Some name) = read_good t file.Input name (input_partial schema)
 
+  tree_good : (name : Option (List ℕ)) → Good t (tree_of name)
+  tree_good None = firm_good t (Means (codes "{}")) (IsBadTree (codes "{}")) (tree_partial (codes "{}"))
+  tree_good (Some name) = read_good t file.Input name tree_partial
+
   -- a line a job
   pub reads_good : (job : Job) → Good t (read job)
   reads_good (Check s) = then_good (λ c. pure (work.Check c)) (checked_good s) (λ c a. pure_good t (work.Check c))
@@ -161,6 +186,10 @@ module _ (t : Texts) where
       then_good (λ (c : Checked). then (input_of c.schema i) (λ (w : WorldOf). pure (work.Run c w))) (checked_good s)
       (λ c a. then_good (λ (w : WorldOf). pure (work.Run c w)) (input_good c.schema i)
       (λ w b. pure_good t (work.Run c w)))
+  reads_good (Exec s i) =
+      then_good (λ (p : Program). then (tree_of i) (λ (j : Json). pure (work.Exec p j)))
+      (read_good t file.Script s script_partial)
+      (λ p a. then_good (λ (j : Json). pure (work.Exec p j)) (tree_good i) (λ j b. pure_good t (work.Exec p j)))
 
 -- ---- the names of the files of jobs
 
@@ -186,6 +215,10 @@ input_asks : (schema : SchemaOf) (name : Option (List ℕ)) → AsksFor (input_o
 input_asks schema None = firm_asks (IsInput schema (codes "{}")) (IsBadInput schema (codes "{}"))
 input_asks schema (Some name) = read_asks (IsInput schema) (IsBadInput schema) file.Input name
 
+tree_asks : (name : Option (List ℕ)) → AsksFor (tree_of name) (names_of name)
+tree_asks None = firm_asks (Means (codes "{}")) (IsBadTree (codes "{}"))
+tree_asks (Some name) = read_asks Means IsBadTree file.Input name
+
 -- a line a job
 reads_asks : (job : Job) → AsksFor (read job) (files_of job)
 reads_asks (Check s) =
@@ -199,6 +232,11 @@ reads_asks (Run s i) =
     (names_of s.schema ++ s.query ∷ []) (names_of i) (checked_asks s)
     (λ c. then_nothing (input_of c.schema i) (λ (w : WorldOf). pure (work.Run c w)) (names_of i) (input_asks c.schema i)
     (λ w. pure_asks (work.Run c w)))
+reads_asks (Exec s i) =
+    then_asks (script_in s) (λ (p : Program). then (tree_of i) (λ (j : Json). pure (work.Exec p j))) (s ∷ [])
+    (names_of i) (read_asks IsScript IsBadScript file.Script s)
+    (λ p. then_nothing (tree_of i) (λ (j : Json). pure (work.Exec p j)) (names_of i) (tree_asks i)
+    (λ j. pure_asks (work.Exec p j)))
 
 pub serve_asks : (job : Job) → AsksFor (serve job) (files_of job)
 serve_asks job =
@@ -207,11 +245,19 @@ serve_asks job =
 
 -- ---- work
 
+-- a program leaves 64 bits or is stuck, and not both
+one_halt : (o : Outcome Json) → o ≡ Halts Range → o ≡ Halts Stuck → ⊥
+one_halt o range stuck = let clash : Halts Range ≡ Halts Stuck = sym range ∙ stuck in cc
+
 -- a line a work
 refused_once : (w : Work) (r q : Refusal) → Refuses w r → Refuses w q → q ≡ r
 refused_once (work.Check c) r q u v = absurd u
 refused_once (work.Compile c) r q u v = absurd u
 refused_once (work.Run c w) r q u v = v.0 ∙ sym u.0
+refused_once (work.Exec p j) r q (inl u) (inl v) = v.0 ∙ sym u.0
+refused_once (work.Exec p j) r q (inr u) (inr v) = v.0 ∙ sym u.0
+refused_once (work.Exec p j) r q (inl u) (inr v) = absurd (one_halt (js bits64 p j) u.1 v.1)
+refused_once (work.Exec p j) r q (inr u) (inl v) = absurd (one_halt (js bits64 p j) v.1 u.1)
 
 pub act_lawful : (t : Texts) (w : Work) → Lawful t (act w)
 act_lawful t w =

@@ -3,3 +3,4 @@ pub mod Lines
 pub mod RanLemmas
 pub mod StageLemmas
 pub mod StepLaws
+pub mod WordLemmas

@@ -4,9 +4,8 @@ use Rattle.std.proofs.lemmas.List.{append-nil}
 use Rattle.qc_io.specs.Device.{Texts}
 use Rattle.qc_work.specs.declared.refusal.Refusal.{Refusal}
 use Rattle.qc_work.specs.declared.refusal.Refusal.TheVariants.{Usage, ReadFault, TooLong, BadSchema, BadScan}
-use Rattle.qc_work.specs.declared.refusal.Refusal.TheVariants.{TooManyTokens}
-use Rattle.qc_work.specs.declared.refusal.Refusal.TheVariants.{BadSyntax, BadType, BadInput, Range, WriteFault}
-use Rattle.qc_work.specs.declared.refusal.Refusal.TheVariants.{Memory}
+use Rattle.qc_work.specs.declared.refusal.Refusal.TheVariants.{TooManyTokens, BadSyntax, BadType, BadInput, BadJs}
+use Rattle.qc_work.specs.declared.refusal.Refusal.TheVariants.{Range, Stuck, WriteFault, Memory}
 use Rattle.std.specs.Io.KnownBytes.{append_known}
 use Rattle.std.specs.Prelude.{IsOk}
 use Rattle.qc_work.specs.Refusals.{status_of}
@@ -43,7 +42,9 @@ fails TooManyTokens e = cc
 fails (BadSyntax at) e = cc
 fails (BadType at) e = cc
 fails BadInput e = cc
+fails BadJs e = cc
 fails Range e = cc
+fails Stuck e = cc
 fails WriteFault e = cc
 fails Memory e = cc
 

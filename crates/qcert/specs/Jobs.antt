@@ -1,9 +1,12 @@
 -- Jobs, and the words that ask for them.
-use Rattle.std.specs.Prelude.{ℕ, List, [], ◌∷◌, Option, Some, None, Bool, if◌then◌else◌, ◌&&◌, codes, option_and_then}
+use Rattle.std.specs.Prelude.{ℕ, List, [], ◌∷◌, Option, Some, None, Bool, true, false, if◌then◌else◌, ◌&&◌, ◌||◌, not}
+use Rattle.std.specs.Prelude.{codes, is_some, option_map, option_and_then}
 use Rattle.std.specs.Option.{option_copied}
 use Rattle.std.specs.Str.{bytes_eq}
 use Rattle.qc_work.specs.declared.sources.Source.{Source}
 use Rattle.qc_work.specs.declared.sources.Source.TheVariants.{Oql}
+use Rattle.qcert.specs.declared.job.Action.{Action}
+use Rattle.qcert.specs.declared.job.Action.TheVariants as action
 use Rattle.qcert.specs.declared.job.Job.{Job as HeldJob}
 use Rattle.qcert.specs.declared.job.Job.TheVariants as held
 use Rattle.qcert.specs.declared.job.Subject.{Subject as HeldSubject}
@@ -19,6 +22,11 @@ pub data Job : Type 0 where
   Check : (subject : Subject) → Job
   Compile : (subject : Subject) → Job
   Run : (subject : Subject) (input : Option (List ℕ)) → Job
+  Exec : (script : List ℕ) (input : Option (List ℕ)) → Job
+
+-- a word of a call, by its bytes
+abbrev pub Word : Type 0
+Word = List ℕ
 
 -- ---- what is seen of the job that code holds
 
@@ -29,51 +37,69 @@ abbrev pub job_seen : HeldJob → Job
 job_seen (held.Check subject) = Check (subject_seen subject)
 job_seen (held.Compile subject) = Compile (subject_seen subject)
 job_seen (held.Run subject input) = Run (subject_seen subject) (option_copied input)
+job_seen (held.Exec script input) = Exec script.now (option_copied input)
 
 -- ---- words
 
 -- the source of a word
-abbrev pub source_of : List ℕ → Option Source
+abbrev pub source_of : Word → Option Source
 source_of word = if bytes_eq word (codes "oql") then Some Oql else None
 
--- the job, where no words follow
-abbrev pub alone : Job → List (List ℕ) → Option Job
-alone job [] = Some job
-alone job (word ∷ words) = None
+-- what stands behind a name, in words that are names with their values
+abbrev pub value_at : Word → List Word → Option Word
+value_at name (key ∷ value ∷ words) = if bytes_eq key name then Some value else value_at name words
+value_at name words = None
 
--- a run without an input's file or with one, by the words that follow
-abbrev pub with_input : Subject → List (List ℕ) → Option Job
-with_input subject [] = Some (Run subject None)
-with_input subject (option ∷ input ∷ []) =
-    if bytes_eq option (codes "--input") then Some (Run subject (Some input)) else None
-with_input subject words = None
+abbrev pub is_among : Word → List Word → Bool
+is_among word [] = false
+is_among word (name ∷ names) = bytes_eq word name || is_among word names
 
--- the job of an action's word, and of the words that follow the subject
-abbrev pub job_on : List ℕ → Subject → List (List ℕ) → Option Job
-job_on action subject words =
-    if bytes_eq action (codes "check") then alone (Check subject) words
-    else if bytes_eq action (codes "compile") then alone (Compile subject) words
-    else if bytes_eq action (codes "run") then with_input subject words
+-- the word is one of the names, and no name in the words that follow
+abbrev pub is_new : Word → List Word → List Word → Bool
+is_new key names words = is_among key names && not (is_some (value_at key words))
+
+-- the words are some of these names, in any order, each once and with its value, which may be any word
+abbrev pub are_options : List Word → List Word → Bool
+are_options names [] = true
+are_options names (key ∷ value ∷ words) =
+    if is_new key names words then are_options names words else false
+are_options names (word ∷ []) = false
+
+-- ---- actions, a line each
+
+-- the action of a word
+abbrev pub action_of : Word → Option Action
+action_of word =
+    if bytes_eq word (codes "check") then Some action.Check
+    else if bytes_eq word (codes "compile") then Some action.Compile
+    else if bytes_eq word (codes "run") then Some action.Run
+    else if bytes_eq word (codes "exec") then Some action.Exec
     else None
 
-abbrev pub subject_of : Source → List ℕ → Option (List ℕ) → Subject
-subject_of source query schema = record { source = source; query = query; schema = schema }
+-- the options that it takes
+abbrev pub takes : Action → List Word
+takes action.Check = codes "--source" ∷ codes "--query" ∷ codes "--schema" ∷ []
+takes action.Compile = codes "--source" ∷ codes "--query" ∷ codes "--schema" ∷ []
+takes action.Run = codes "--source" ∷ codes "--query" ∷ codes "--schema" ∷ codes "--input" ∷ []
+takes action.Exec = codes "--script" ∷ codes "--input" ∷ []
 
--- the job of an action's word, and of the words that follow the query's file: a schema's file, or none, and others
-abbrev pub with_schema : List ℕ → Source → List ℕ → List (List ℕ) → Option Job
-with_schema action source query (option ∷ schema ∷ words) =
-    if bytes_eq option (codes "--schema") then job_on action (subject_of source query (Some schema)) words
-    else job_on action (subject_of source query None) (option ∷ schema ∷ words)
-with_schema action source query words = job_on action (subject_of source query None) words
+-- the query that options name: its source and its file are needed
+abbrev pub subject_in : List Word → Option Subject
+subject_in words =
+    option_and_then (λ source. option_map (λ query.
+    record { source = source; query = query; schema = value_at (codes "--schema") words })
+    (value_at (codes "--query") words)) (option_and_then source_of (value_at (codes "--source") words))
 
--- the two options before a query's file
-abbrev pub are_options : List ℕ → List ℕ → Bool
-are_options first second = bytes_eq first (codes "--source") && bytes_eq second (codes "--query")
+-- the job of an action with its options, where those that are needed are among them
+abbrev pub job_on : Action → List Word → Option Job
+job_on action.Check words = option_map Check (subject_in words)
+job_on action.Compile words = option_map Compile (subject_in words)
+job_on action.Run words = option_map (λ subject. Run subject (value_at (codes "--input") words)) (subject_in words)
+job_on action.Exec words =
+    option_map (λ script. Exec script (value_at (codes "--input") words)) (value_at (codes "--script") words)
 
--- the job of the words, of which the first is the program's name: `qcert ACTION --source SOURCE --query FILE`, and then
--- maybe `--schema FILE`, and for `run` maybe `--input FILE`
-abbrev pub job_of : List (List ℕ) → Option Job
-job_of (program ∷ action ∷ first ∷ source ∷ second ∷ query ∷ words) =
-    if are_options first second then option_and_then (λ s. with_schema action s query words) (source_of source)
-    else None
+-- the job of the words, of which the first is the program's name and the second an action's word
+abbrev pub job_of : List Word → Option Job
+job_of (program ∷ word ∷ words) =
+    option_and_then (λ a. if are_options (takes a) words then job_on a words else None) (action_of word)
 job_of words = None

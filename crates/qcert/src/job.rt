@@ -1,9 +1,10 @@
 // What the words of a call ask for.
-ghost use Rattle.std.specs.Prelude.{◌≡◌, [], ◌∷◌, map, Option, IfSome, None, Some, ℕ, List};
+ghost use Rattle.std.specs.Prelude.{◌≡◌, map};
 ghost use Rattle.std.specs.Option.{option_copied, option_map};
 ghost use Rattle.std.specs.Rc.{rc_str_bytes};
-ghost use Rattle.qcert.specs.Jobs.{job_of, source_of, are_options, with_schema, job_on, alone, with_input};
-ghost use Rattle.qcert.specs.Jobs.{subject_seen, job_seen};
+ghost use Rattle.std.specs.Str.{bytes_eq};
+ghost use Rattle.qcert.specs.Jobs.{action_of, are_options, is_among, is_new, job_of, job_on, job_seen, source_of};
+ghost use Rattle.qcert.specs.Jobs.{subject_in, subject_seen, takes, value_at};
 
 use qc_work::Source;
 use std::rc::RcStr;
@@ -25,20 +26,130 @@ pub enum Job<'a> {
     Compile(Subject<'a>),
     /// The query is answered on the input of a file, if one is named.
     Run(Subject<'a>, Option<&'a str>),
+    /// The script of a file is executed on the input of a file, if one is named.
+    Exec(&'a str, Option<&'a str>),
+}
+
+/// An action.
+#[derive(Clone, Copy, Debug)]
+pub enum Action {
+    Check,
+    Compile,
+    Run,
+    Exec,
 }
 
 /// What the words ask for, if they are a job.
 pub fn job_of(words: &[RcStr]) -> Option<Job<'_>>
     ensures { option_map job_seen result ≡ job_of (map rc_str_bytes words.now) }
 {
-    let [_, action, first, source, second, query, further @ ..] = words else {
+    let [_, action, options @ ..] = words else {
         return None;
     };
-    if !are_options(first.as_str(), second.as_str()) {
-        return None;
+    let action = action_of(action.as_str())?;
+    if takes(action, options) {
+        job_on(action, options)
+    } else {
+        None
     }
-    let source = source_of(source.as_str())?;
-    with_schema(action.as_str(), source, query.as_str(), further)
+}
+
+// The action of a word.
+fn action_of(word: &str) -> Option<Action>
+    ensures { result ≡ action_of word.now }
+{
+    match word {
+        "check" => Some(Action::Check),
+        "compile" => Some(Action::Compile),
+        "run" => Some(Action::Run),
+        "exec" => Some(Action::Exec),
+        _ => None,
+    }
+}
+
+// Whether the words are options that the action takes.
+fn takes(action: Action, words: &[RcStr]) -> bool
+    ensures { result ≡ are_options (takes action) (map rc_str_bytes words.now) }
+{
+    match action {
+        Action::Check => are_options(&["--source", "--query", "--schema"], words),
+        Action::Compile => are_options(&["--source", "--query", "--schema"], words),
+        Action::Run => are_options(&["--source", "--query", "--schema", "--input"], words),
+        Action::Exec => are_options(&["--script", "--input"], words),
+    }
+}
+
+// Whether the words are some of these names, each once and with its value.
+fn are_options(names: &[&str], words: &[RcStr]) -> bool
+    ensures { result ≡ are_options (map (λ name. name.now) names.now) (map rc_str_bytes words.now) }
+{
+    match words {
+        [] => true,
+        [key, _, rest @ ..] => is_new(key.as_str(), names, rest) && are_options(names, rest),
+        _ => false,
+    }
+}
+
+// Whether the word is one of the names, and no name of the words that follow.
+fn is_new(key: &str, names: &[&str], words: &[RcStr]) -> bool
+    ensures { result ≡ is_new key.now (map (λ name. name.now) names.now) (map rc_str_bytes words.now) }
+{
+    is_among(key, names) && value_at(key, words).is_none()
+}
+
+// Whether the word is one of the names.
+fn is_among(word: &str, names: &[&str]) -> bool
+    ensures { result ≡ is_among word.now (map (λ name. name.now) names.now) }
+{
+    for name in names {
+        if word == *name {
+            return true;
+        }
+    }
+    false
+}
+
+// What stands behind the name, in words that are names with their values.
+fn value_at<'a>(name: &str, words: &'a [RcStr]) -> Option<&'a str>
+    ensures { option_copied result ≡ value_at name.now (map rc_str_bytes words.now) }
+{
+    match words {
+        [key, value, rest @ ..] => {
+            if key.as_str() == name {
+                Some(value.as_str())
+            } else {
+                value_at(name, rest)
+            }
+        }
+        _ => None,
+    }
+}
+
+// The job of an action with its options, where those that are needed are among them.
+fn job_on(action: Action, words: &[RcStr]) -> Option<Job<'_>>
+    ensures { option_map job_seen result ≡ job_on action (map rc_str_bytes words.now) }
+{
+    let input = value_at("--input", words);
+    match action {
+        Action::Check => Some(Job::Check(subject_in(words)?)),
+        Action::Compile => Some(Job::Compile(subject_in(words)?)),
+        Action::Run => Some(Job::Run(subject_in(words)?, input)),
+        Action::Exec => Some(Job::Exec(value_at("--script", words)?, input)),
+    }
+}
+
+// The query that the options name.
+fn subject_in(words: &[RcStr]) -> Option<Subject<'_>>
+    ensures { option_map subject_seen result ≡ subject_in (map rc_str_bytes words.now) }
+{
+    let source = source_of(value_at("--source", words)?)?;
+    let query = value_at("--query", words)?;
+    let schema = value_at("--schema", words);
+    Some(Subject {
+        source,
+        query,
+        schema,
+    })
 }
 
 // The source of a word.
@@ -47,87 +158,6 @@ fn source_of(word: &str) -> Option<Source>
 {
     match word {
         "oql" => Some(Source::Oql),
-        _ => None,
-    }
-}
-
-// Whether the words are the two options before a query's file.
-fn are_options(first: &str, second: &str) -> bool
-    ensures { result ≡ are_options first.now second.now }
-{
-    first == "--source" && second == "--query"
-}
-
-// The job of an action's word, and of the words after the query's file: a schema's file, or none, and others.
-fn with_schema<'a>(
-    action: &str,
-    source: Source,
-    query: &'a str,
-    words: &'a [RcStr],
-) -> Option<Job<'a>>
-    ensures { option_map job_seen result ≡ with_schema action.now source query.now (map rc_str_bytes words.now) }
-{
-    let bare = Subject {
-        source,
-        query,
-        schema: None,
-    };
-    match words {
-        [option, schema, further @ ..] => {
-            if option.as_str() == "--schema" {
-                let schema = Some(schema.as_str());
-                job_on(
-                    action,
-                    Subject {
-                        source,
-                        query,
-                        schema,
-                    },
-                    further,
-                )
-            } else {
-                job_on(action, bare, words)
-            }
-        }
-        _ => job_on(action, bare, words),
-    }
-}
-
-// The job of an action's word, and of the words after the subject.
-fn job_on<'a>(action: &str, subject: Subject<'a>, words: &'a [RcStr]) -> Option<Job<'a>>
-    ensures { option_map job_seen result ≡ job_on action.now (subject_seen subject.entry) (map rc_str_bytes words.now) }
-{
-    match action {
-        "check" => alone(Job::Check(subject), words),
-        "compile" => alone(Job::Compile(subject), words),
-        "run" => with_input(subject, words),
-        _ => None,
-    }
-}
-
-// The job, where no words follow.
-fn alone<'a>(job: Job<'a>, words: &[RcStr]) -> Option<Job<'a>>
-    ensures { option_map job_seen result ≡ alone (job_seen job.entry) (map rc_str_bytes words.now) }
-{
-    match words {
-        [] => Some(job),
-        _ => None,
-    }
-}
-
-// A run without an input's file or with one, by the words that follow.
-fn with_input<'a>(subject: Subject<'a>, words: &'a [RcStr]) -> Option<Job<'a>>
-    ensures { option_map job_seen result ≡ with_input (subject_seen subject.entry) (map rc_str_bytes words.now) }
-{
-    match words {
-        [] => Some(Job::Run(subject, None)),
-        [option, input] => {
-            if option.as_str() == "--input" {
-                Some(Job::Run(subject, Some(input.as_str())))
-            } else {
-                None
-            }
-        }
         _ => None,
     }
 }

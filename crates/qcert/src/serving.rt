@@ -4,16 +4,16 @@ ghost use Rattle.std.specs.Option.{option_copied};
 ghost use Rattle.std.specs.Result.{result_map_both};
 ghost use Rattle.std.specs.Rc.{rc_str_bytes};
 ghost use Rattle.qc_work.specs.Texts.{bytes_of};
-ghost use Rattle.qcert.specs.Jobs.{Check, Compile, Run, job_seen, subject_seen};
+ghost use Rattle.qcert.specs.Jobs.{Check, Compile, Run, Exec, job_seen, subject_seen};
 ghost use Rattle.qcert.specs.Ran.{IsEnding};
 ghost use Rattle.qcert.specs.Fetching.{serve};
 ghost use Rattle.qcert.specs.Steps.{visit};
 ghost use Rattle.qcert.specs.inner.Promises.{Stage};
 
 use crate::job::{Job, Subject, job_of};
-use crate::stages::{checked_in, input_of};
+use crate::stages::{checked_in, input_of, script_of, tree_of};
 use qc_io::Shelf;
-use qc_work::{Refusal, Text, answer_line, program_text, type_line};
+use qc_work::{Refusal, Text, answer_line, program_text, result_line, type_line};
 use std::alloc::Global;
 use std::rc::RcStr;
 
@@ -39,6 +39,7 @@ fn serve<S: Shelf>(alloc: Global, shelf: &mut S, job: &Job<'_>) -> Result<Text, 
         Job::Check(subject) => check(alloc, shelf, subject),
         Job::Compile(subject) => compile(alloc, shelf, subject),
         Job::Run(subject, input) => run_query(alloc, shelf, subject, *input),
+        Job::Exec(script, input) => execute(alloc, shelf, script, *input),
     }
 }
 
@@ -73,4 +74,19 @@ fn run_query<S: Shelf>(
     let checked = checked_in(alloc, shelf, subject)?;
     let world = input_of(alloc, shelf, &checked.schema, input)?;
     answer_line(alloc, &checked, &world)
+}
+
+fn execute<S: Shelf>(
+    alloc: Global,
+    shelf: &mut S,
+    script: &str,
+    input: Option<&str>,
+) -> Result<Text, Refusal>
+    ensures ended { Stage (serve (Exec script.now (option_copied input.entry)))
+        (visit S.texts S.faults S.asked shelf.old shelf.new) (result_map_both bytes_of (λ r. r) result) }
+    ensures same { S.texts shelf.new ≡ S.texts shelf.old }
+{
+    let js = script_of(alloc, shelf, script)?;
+    let tree = tree_of(alloc, shelf, input)?;
+    result_line(alloc, &js, &tree)
 }

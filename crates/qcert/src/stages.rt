@@ -1,22 +1,28 @@
-// The files that a job reads: its schema, its query and its input.
+// The files that a job reads: its schema, its query and its input; or its script and its input.
 ghost use Rattle.std.specs.Prelude.{◌≤◌, ◌≡◌, length, IfOk};
 ghost use Rattle.std.specs.Option.{option_copied};
 ghost use Rattle.std.specs.Result.{result_map_both};
+ghost use Rattle.qc_schema.specs.JsonReading.{Means};
 ghost use Rattle.qc_schema.specs.SchemaFile.{MeansSchema};
 ghost use Rattle.qc_work.specs.declared.refusal.File.TheVariants as file;
 ghost use Rattle.qc_work.specs.Promises.{HasItsType};
-ghost use Rattle.qc_work.specs.Reading.{IsBadSchema, IsInput, IsBadInput};
+ghost use Rattle.qc_work.specs.Reading.{IsBadSchema, IsBadTree, IsInput, IsBadInput};
 ghost use Rattle.qcert.specs.Files.{fetch, most_of, read_as};
 ghost use Rattle.qcert.specs.Jobs.{subject_seen};
-ghost use Rattle.qcert.specs.Fetching.{schema_of, tokens_in, query_in, checked_in, input_of};
+ghost use Rattle.qcert.specs.Fetching.{schema_of, tokens_in, query_in, checked_in, input_of, script_in, tree_of};
 ghost use Rattle.qcert.specs.Steps.{visit};
 ghost use Rattle.qcert.specs.inner.Promises.{Stage};
 
 use crate::job::Subject;
+use qc_data::Json;
 use qc_io::{FetchFault, Shelf};
+use qc_js::Js;
 use qc_lex::Words;
 use qc_types::{Schema, World};
-use qc_work::{Checked, File, Query, Refusal, Source, input_in, query_in, schema_in, tokens_in};
+use qc_work::{
+    Checked, File, Query, Refusal, Source, input_in, query_in, schema_in, script_in, tokens_in,
+    tree_in,
+};
 use std::alloc::Global;
 
 /// The subject's schema, and its query in it.
@@ -51,6 +57,29 @@ pub fn input_of<S: Shelf>(
     match name {
         Some(name) => input_file(alloc, shelf, schema, name),
         None => input_in(alloc, schema, "{}".as_bytes()),
+    }
+}
+
+/// The program in the file of this name.
+pub fn script_of<S: Shelf>(alloc: Global, shelf: &mut S, name: &str) -> Result<Js, Refusal>
+    ensures ended { Stage (script_in name.now) (visit S.texts S.faults S.asked shelf.old shelf.new) result }
+    ensures same { S.texts shelf.new ≡ S.texts shelf.old }
+    ensures count { S.faults shelf.old ≤ S.faults shelf.new }
+{
+    let bytes = fetch(alloc, shelf, File::Script, name)?;
+    script_in(alloc, &bytes)
+}
+
+/// The input of a script, any JSON tree: without a file, that of `{}`.
+pub fn tree_of<S: Shelf>(alloc: Global, shelf: &mut S, name: Option<&str>) -> Result<Json, Refusal>
+    ensures ended { Stage (tree_of (option_copied name.entry))
+        (visit S.texts S.faults S.asked shelf.old shelf.new) result }
+    ensures same { S.texts shelf.new ≡ S.texts shelf.old }
+    ensures count { S.faults shelf.old ≤ S.faults shelf.new }
+{
+    match name {
+        Some(name) => tree_file(alloc, shelf, name),
+        None => tree_in(alloc, "{}".as_bytes()),
     }
 }
 
@@ -127,6 +156,17 @@ fn input_file<S: Shelf>(
 {
     let bytes = fetch(alloc, shelf, File::Input, name)?;
     input_in(alloc, schema, &bytes)
+}
+
+// The JSON tree in the input's file of this name.
+fn tree_file<S: Shelf>(alloc: Global, shelf: &mut S, name: &str) -> Result<Json, Refusal>
+    ensures ended { Stage (read_as Means IsBadTree file.Input name.now)
+        (visit S.texts S.faults S.asked shelf.old shelf.new) result }
+    ensures same { S.texts shelf.new ≡ S.texts shelf.old }
+    ensures count { S.faults shelf.old ≤ S.faults shelf.new }
+{
+    let bytes = fetch(alloc, shelf, File::Input, name)?;
+    tree_in(alloc, &bytes)
 }
 
 // The text of the file of this name, within the file's limit.

@@ -37,7 +37,9 @@ pub fn tell<E: Sink>(refusal: Refusal, err: &mut E)
             put_all(&["qcert: BadType at token ", buffer.format(at), "\n"], err)
         }
         Refusal::BadInput => put_all(&["qcert: BadInput\n"], err),
+        Refusal::BadJs => put_all(&["qcert: BadJs\n"], err),
         Refusal::Range => put_all(&["qcert: Range\n"], err),
+        Refusal::Stuck => put_all(&["qcert: Stuck\n"], err),
         Refusal::WriteFault => put_all(&["qcert: WriteFault\n"], err),
         Refusal::Memory => put_all(&["qcert: Memory\n"], err),
     };

@@ -39,6 +39,12 @@ impl Ended {
         })
     }
 
+    /// Whether it is a query's answer, or the whole line that says that the query leaves 64 bits, and nothing more.
+    pub fn is_outcome(&self) -> bool {
+        let is_range = self.status == 6 && self.err.as_slice() == b"qcert: Range\n".as_slice();
+        (self.status == 0 || is_range) && self.asked.is_none()
+    }
+
     /// All of it as bytes, which are the same exactly where all of it is.
     pub fn bytes(&self, alloc: Global) -> Result<Vec<u8>, Odd> {
         let (status, out, err) = (self.status, self.out.len(), self.err.len());

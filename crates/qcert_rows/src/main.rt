@@ -2,9 +2,11 @@
 #![tactic(auto)]
 
 mod ended;
+mod steps;
 mod words;
 
 use crate::ended::Ended;
+use crate::steps::Steps;
 use crate::words::add_words;
 use qc_containers::Chars;
 use qc_data::{Json, Jsons};
@@ -42,7 +44,7 @@ impl Rows for Calls {
         }
         let mut shelf = MemShelf::new(alloc);
         let mut words = Vec::new(alloc);
-        add_words(alloc, texts, row, &mut words, &mut shelf)?;
+        let steps = add_words(alloc, texts, row, &mut words, &mut shelf)?;
         add_files(alloc, texts, row, &mut shelf)?;
         let mut out = sink(alloc, row, "room", ROOM, "put_fails")?;
         let mut err = sink(alloc, row, "err_room", ERR_ROOM, "err_fails")?;
@@ -57,11 +59,31 @@ impl Rows for Calls {
                 None => None,
             },
         };
-        Ok(Compared {
+        let mut compared = Compared {
             wanted: wanted.bytes(alloc)?,
             came: came.bytes(alloc)?,
-        })
+        };
+        if let Some(steps) = steps {
+            if wanted.is_outcome() {
+                add_steps(alloc, &steps, &mut shelf, &wanted, &mut compared)?;
+            }
+        }
+        Ok(compared)
     }
+}
+
+// Adds what both steps leave behind, which is to be the same.
+fn add_steps(
+    alloc: Global,
+    steps: &Steps,
+    shelf: &mut MemShelf,
+    wanted: &Ended,
+    compared: &mut Compared,
+) -> Result<(), Odd> {
+    let came = steps.take(alloc, shelf)?;
+    compared.wanted.extend_from_slice(&wanted.bytes(alloc)?)?;
+    compared.came.extend_from_slice(&came.bytes(alloc)?)?;
+    Ok(())
 }
 
 // Adds the files that the row lists, and says which fetches fail.

@@ -8,8 +8,8 @@ use Rattle.qc_rt.specs.declared.function.Rt.TheVariants as rt
 use Rattle.qc_js.specs.declared.tree.Expr.TheVariants as tree
 use Rattle.qc_js.specs.declared.tree.Program.{Program}
 use Rattle.qc_js.specs.declared.tree.Stmt.TheVariants as stmt
-use Rattle.qc_js_text.specs.declared.lexeme.Lexeme.{Lexeme}
-use Rattle.qc_js_text.specs.declared.lexeme.Lexeme.TheVariants as lexeme
+use Rattle.qc_js_lex.specs.declared.lexeme.Lexeme.{Lexeme}
+use Rattle.qc_js_lex.specs.declared.lexeme.Lexeme.TheVariants as lexeme
 use Rattle.qc_js_text.specs.declared.value.Value.TheVariants.{Name, Function, Tree, Members, Statement, Statements}
 use Rattle.qc_js_text.specs.Table.{DO_NO_STATEMENTS, DO_STATEMENT, DO_NAME, DO_LET, DO_FOR, DO_IF, DO_SET}
 use Rattle.qc_js_text.specs.Table.{DO_PUSH, DO_CONST, DO_COLLECT, DO_NONE, DO_ITEM, DO_ARRAY, DO_VARIABLE, DO_WORLD}

@@ -1,7 +1,7 @@
 -- How deep brackets are open in a list of lexemes.
 use Rattle.std.specs.Prelude.{ℕ, suc, pred, nat_lt, ◌==◌, ◌&&◌, not, Bool, true, if◌then◌else◌, List, [], ◌∷◌}
-use Rattle.qc_js_text.specs.declared.lexeme.Lexeme.{Lexeme}
-use Rattle.qc_js_text.specs.declared.lexeme.Lexeme.TheVariants.{Fixed}
+use Rattle.qc_js_lex.specs.declared.lexeme.Lexeme.{Lexeme}
+use Rattle.qc_js_lex.specs.declared.lexeme.Lexeme.TheVariants.{Fixed}
 
 -- how many brackets are open behind a lexeme
 abbrev pub open_behind : ℕ → Lexeme → ℕ

@@ -9,8 +9,8 @@ use Rattle.qc_js.specs.declared.tree.Stmt.TheFolds.{fold-Stmt}
 use Rattle.qc_js.specs.declared.tree.Program.{Program}
 use Rattle.qc_js.specs.Held.{all_true}
 use Rattle.qc_js.specs.WellFormed.{is_bare}
-use Rattle.qc_js_text.specs.declared.lexeme.Lexeme.{Lexeme}
-use Rattle.qc_js_text.specs.declared.lexeme.Lexeme.TheVariants.{Var, Function, Int, Text, Fixed}
+use Rattle.qc_js_lex.specs.declared.lexeme.Lexeme.{Lexeme}
+use Rattle.qc_js_lex.specs.declared.lexeme.Lexeme.TheVariants.{Var, Function, Int, Text, Fixed}
 
 -- the words and the marks of the grammar in order
 abbrev pub function_word : Lexeme

@@ -2,7 +2,7 @@ use Rattle.std.proofs.Common.{ℕ, List, length, ap, subst, ◌∙◌, arith}
 use Rattle.std.proofs.lemmas.List.{length-map}
 use Rattle.qc_grammar.specs.inner.Derivations.{Rules, Whole}
 use Rattle.qc_grammar.specs.Parsing.{Parses}
-use Rattle.qc_js_text.specs.inner.Lexemes.{kind}
+use Rattle.qc_js_lex.specs.Lexemes.{kind}
 use Rattle.qc_js_text.specs.Table.{grammar}
 use Rattle.qc_js_text.proofs.Bridge.{parses}
 use Rattle.qc_js_text.proofs.parsing.derivation.Goals as goal

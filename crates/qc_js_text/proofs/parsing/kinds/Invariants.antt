@@ -1,5 +1,5 @@
 use Rattle.std.proofs.Common.{◌≡◌, map, take}
-use Rattle.qc_js_text.specs.inner.Lexemes.{kind}
+use Rattle.qc_js_lex.specs.Lexemes.{kind}
 use Rattle.qc_js_text.proofs.parsing.kinds.Given as goal
 
 abbrev pub invariant-loop-lexeme : goal.invariant-loop-lexeme

@@ -18,8 +18,8 @@ class_twin-returns-in_ok-content-in-Text t c =
     let members = fields_seen c.args.members.now in
     rw (
       class_some ps c.args.members.now c.index-pairs-0.result c.index-pairs-1.result c.index-pairs-0-2.result
-          c.index-pairs-1-in-Text.result c.as_str.result.now c.as_str-2.result.now c.as_slice-pairs.ensures.pairs c.requires
-          c.as_str.ensures c.as_str-2.ensures (sym c.tags_class.ensures ∙ c.if-not-tags_class.false)
+          c.index-pairs-1-in-Text.result c.as_str.result.now c.as_str-2.result.now c.as_slice-pairs.ensures.pairs
+          c.requires c.as_str.ensures c.as_str-2.ensures (sym c.tags_class.ensures ∙ c.if-not-tags_class.false)
           ∙ class_text (get_or ps 0 c.index-pairs-0-2.result).1 (get_or ps 1 c.index-pairs-1-in-Text.result).1 _ members
           c.in-Text.is,
       twin-Brand,

@@ -8,3 +8,6 @@ returns-in-Compile-clause-ended g c = rw c.in-Compile.is c.compile.ensures.ended
 
 pub returns-in-Run-clause-ended : goal.returns-in-Run-clause-ended
 returns-in-Run-clause-ended g c = rw c.in-Run.is c.run_query.ensures.ended
+
+pub returns-in-Exec-clause-ended : goal.returns-in-Exec-clause-ended
+returns-in-Exec-clause-ended g c = rw c.in-Exec.is c.execute.ensures.ended

@@ -25,6 +25,12 @@ returns-in-BadInput g c = rw (c.in-BadInput.is) c.put_all-in-BadInput.ensures.by
 pub returns-in-Range : goal.returns-in-Range
 returns-in-Range g c = rw (c.in-Range.is) c.put_all-in-Range.ensures.bytes
 
+pub returns-in-BadJs : goal.returns-in-BadJs
+returns-in-BadJs g c = rw (c.in-BadJs.is) c.put_all-in-BadJs.ensures.bytes
+
+pub returns-in-Stuck : goal.returns-in-Stuck
+returns-in-Stuck g c = rw (c.in-Stuck.is) c.put_all-in-Stuck.ensures.bytes
+
 pub returns-in-WriteFault : goal.returns-in-WriteFault
 returns-in-WriteFault g c = rw (c.in-WriteFault.is) c.put_all-in-WriteFault.ensures.bytes
 
